@@ -1,0 +1,29 @@
+-- 01, "The console's answers": the number of each answer, and its length or place. Assumes nothing: these are definitions.
+use Prim.Native.Nat.{ℕ}
+use Rattle.answers.specs.declared.Answer.{Answer}
+use Rattle.answers.specs.declared.Answer.the-variants.{Shortened, ShortWork, LongCard, BadRoot, ShortRecord, WrongKind, TooDeep, LeftOver, FullTable, NoSpace}
+
+abbrev pub number : Answer → ℕ
+number (Shortened length) = 0
+number ShortWork = 1
+number LongCard = 2
+number BadRoot = 3
+number (ShortRecord place) = 4
+number (WrongKind place) = 5
+number (TooDeep place) = 6
+number (LeftOver place) = 7
+number (FullTable place) = 8
+number NoSpace = 9
+
+-- the output's length, or the place
+abbrev pub value : Answer → ℕ
+value (Shortened length) = length
+value ShortWork = 0
+value LongCard = 0
+value BadRoot = 0
+value (ShortRecord place) = place
+value (WrongKind place) = place
+value (TooDeep place) = place
+value (LeftOver place) = place
+value (FullTable place) = place
+value NoSpace = 0

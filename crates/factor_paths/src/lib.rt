@@ -1,0 +1,1 @@
+// The Dafny text's FactorPathsOptimization over records: the definitions stand in specs/.

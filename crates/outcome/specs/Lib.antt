@@ -1,0 +1,2 @@
+pub mod FullTable
+pub mod Outcome

@@ -1,0 +1,70 @@
+-- 01, "The console's answers", and demand 1: what a call answers, and what the lent memory then holds. Assumes nothing: these are definitions.
+use mathlib.Core.List.{List, [], _∷_, _++_}
+use mathlib.Core.Bool.{Bool, true, false, _&&_, not, cond}
+use Prim.Native.Nat.{ℕ}
+use lib.ListN.{length, drop, replicate}
+use lib.Dec.{leb, ltb}
+use Rattle.answers.specs.declared.Answer.{Answer}
+use Rattle.answers.specs.declared.Answer.the-variants.{Shortened, ShortWork, LongCard, BadRoot, FullTable, NoSpace}
+use Rattle.answers.specs.declared.Verdict.{Verdict}
+use Rattle.answers.specs.declared.Verdict.the-variants.{Sound, Refused}
+use Rattle.wire.specs.Numbers.{Bytes}
+use Rattle.records.specs.Record.{Record, encode, tree}
+use Rattle.records.specs.Kinds.{path}
+use Rattle.records.specs.Reading.{reading}
+use Rattle.rast.specs.Path.{Path, MSel, whether}
+use Rattle.rast.specs.Operation.{Operation}
+use Rattle.rast.specs.Mod.{nameOf}
+use Rattle.factor_paths.specs.Apply.{depth, apply}
+use Rattle.outcome.specs.FullTable.{fullTable}
+
+-- an answer, and what the out buffer and the work words hold after it
+pub record Outcome : Type 0 where
+  pub answer : Answer
+  pub out : Bytes
+  pub work : List ℕ
+
+abbrev pub isSound : Verdict → Bool
+isSound Sound = true
+isSound (Refused a) = false
+
+module _ (op : Operation) (card root out : Bytes) (work : List ℕ) where
+  -- the out buffer is left, and the work words are left or zero
+  abbrev pub refusal : Answer → Outcome
+  refusal a = record { answer = a; out = out; work = work }
+
+  abbrev pub zeros : List ℕ
+  zeros = replicate (length work) 0
+
+  abbrev pub lateRefusal : Answer → Outcome
+  lateRefusal a = record { answer = a; out = out; work = zeros }
+
+  abbrev pub output : Bytes
+  output = encode (apply op (tree root) (tree card))
+
+  -- 9, or acceptance
+  abbrev pub written : Outcome
+  written =
+      cond (ltb (length out) (length output)) (lateRefusal NoSpace)
+      (record { answer = Shortened (length output); out = output ++ drop (length output) out; work = zeros })
+
+  -- 8, and then 9
+  abbrev pub shortened : Outcome
+  shortened =
+      whether (fullTable op (op .mostPairs (length work)) (depth (tree card)) (tree card) (MSel (tree root) (nameOf (tree card))) 0)
+      written (λ place. lateRefusal (FullTable place))
+
+  -- 4 to 7, and then 8
+  abbrev pub afterReading : Verdict → Outcome
+  afterReading (Refused a) = refusal a
+  afterReading Sound = shortened
+
+  abbrev pub goodRoot : Bool
+  goodRoot = leb (length root) (op .mostRootBytes) && isSound (reading (op .rootDepth) path root)
+
+  unfoldable pub shorten : Outcome
+  shorten =
+      let read : Outcome = afterReading (reading (op .cardDepth) (op .outermost) card) in
+      cond (ltb (length work) (op .fewestWords)) (refusal ShortWork)
+      (cond (ltb (op .mostCardBytes) (length card)) (refusal LongCard)
+      (cond (not goodRoot) (refusal BadRoot) read))

@@ -1,0 +1,1 @@
+// The whole answer to a call of shortening: the definitions stand in specs/.

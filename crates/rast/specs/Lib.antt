@@ -1,0 +1,7 @@
+pub mod Path
+pub mod Operation
+pub mod Mod
+pub mod Fold
+pub mod Replace
+pub mod Visitor
+pub mod Replacer

@@ -1,0 +1,37 @@
+-- What may differ between one operation and another, and the values of the operation that the Dafny text defines. Assumes nothing: these are definitions.
+use mathlib.Core.Bool.{Bool, true}
+use Prim.Native.Nat.{ℕ}
+use Rattle.wire.specs.Numbers.{sameBytes}
+use Rattle.records.specs.Kinds.{Place, mod′}
+use Rattle.rast.specs.Path.{Name, Path, MSel}
+
+pub record Operation : Type 0 where
+  -- 01, "The console's answers": the limits of 1, 2, 3, 6 and 8, the last for so many lent words; and the outermost record
+  pub fewestWords : ℕ
+  pub mostCardBytes : ℕ
+  pub mostRootBytes : ℕ
+  pub rootDepth : ℕ
+  pub cardDepth : ℕ
+  pub mostPairs : ℕ → ℕ
+  pub outermost : Place
+  -- when two names are the same
+  pub sameName : Name → Name → Bool
+  -- what PathSimplifier's ReplaceModSingle makes of the path that it is handed, and of the module's name
+  pub entering : Path → Name → Path
+  -- whether ReplaceFn hands ReplaceType and ReplaceExpr to Replace, which walk again
+  pub walksAgain : Bool
+
+abbrev pub upstream : Operation
+upstream =
+    record {
+      fewestWords = 2048;
+      mostCardBytes = 32768;
+      mostRootBytes = 256;
+      rootDepth = 8;
+      cardDepth = 48;
+      mostPairs = λ words. 512;
+      outermost = mod′;
+      sameName = sameBytes;
+      entering = MSel;
+      walksAgain = true;
+    }

@@ -1,0 +1,1 @@
+// The Dafny text's RAST over records: the definitions stand in specs/.

@@ -1,0 +1,1 @@
+// Records, their kinds and how they are read: the definitions stand in specs/.

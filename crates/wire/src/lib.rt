@@ -1,0 +1,1 @@
+// Numbers in bytes: the definitions stand in specs/.

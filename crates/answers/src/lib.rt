@@ -1,11 +1,11 @@
 // The answers of document 01, "The console's answers": a case for each row of its table, and acceptance.
 pub enum Answer {
-    // the output's length
+    // with the output's length
     Shortened(usize),
     ShortWork,
     LongCard,
     BadRoot,
-    // from here to FullTable: the place
+    // these, to FullTable, with the place; the others at place 0
     ShortRecord(usize),
     WrongKind(usize),
     TooDeep(usize),
@@ -14,7 +14,7 @@ pub enum Answer {
     NoSpace,
 }
 
-// What reading says of bytes.
+// What reading says of bytes; it refuses by ShortRecord, WrongKind, TooDeep and LeftOver alone.
 pub enum Verdict {
     Sound,
     Refused(Answer),

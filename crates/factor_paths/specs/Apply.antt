@@ -1,9 +1,8 @@
 -- PathSimplifier, applyPrefix and apply of FactorPathsOptimization (01, PathSimplifier on RASTBottomUpReplacer, applyPrefix). Assumes nothing: these are definitions.
-use mathlib.Core.List.{List, [], _∷_}
-use mathlib.Core.Bool.{Bool, true, false, _&&_, cond}
+use mathlib.Core.Bool.{Bool, false, _&&_, cond}
 use Prim.Native.Nat.{ℕ, zero, suc, max}
 use Rattle.records.specs.Record.{Record, Records, leaf, node, nil, _▸_, _▸▸_, children, update, put}
-use Rattle.rast.specs.Path.{Name, Path, MSel, Selected, selected, whether}
+use Rattle.rast.specs.Path.{Name, Path, MSel, selected, whether}
 use Rattle.rast.specs.Operation.{Operation}
 use Rattle.rast.specs.Mod.{ExternMod?, nameOf}
 use Rattle.rast.specs.Visitor.{VisitMod}

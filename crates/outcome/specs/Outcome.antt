@@ -1,5 +1,5 @@
 -- 01, "The console's answers", and demand 1: what a call answers, and what the lent memory then holds. Assumes nothing: these are definitions.
-use mathlib.Core.List.{List, [], _∷_, _++_}
+use mathlib.Core.List.{List, _++_}
 use mathlib.Core.Bool.{Bool, true, false, _&&_, not, cond}
 use Prim.Native.Nat.{ℕ}
 use lib.ListN.{length, drop, replicate}
@@ -9,10 +9,10 @@ use Rattle.answers.specs.declared.Answer.the-variants.{Shortened, ShortWork, Lo
 use Rattle.answers.specs.declared.Verdict.{Verdict}
 use Rattle.answers.specs.declared.Verdict.the-variants.{Sound, Refused}
 use Rattle.wire.specs.Numbers.{Bytes}
-use Rattle.records.specs.Record.{Record, encode, tree}
+use Rattle.records.specs.Record.{encode, tree}
 use Rattle.records.specs.Kinds.{path}
 use Rattle.records.specs.Reading.{reading}
-use Rattle.rast.specs.Path.{Path, MSel, whether}
+use Rattle.rast.specs.Path.{MSel, whether}
 use Rattle.rast.specs.Operation.{Operation}
 use Rattle.rast.specs.Mod.{nameOf}
 use Rattle.factor_paths.specs.Apply.{depth, apply}

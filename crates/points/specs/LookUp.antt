@@ -5,11 +5,11 @@ use Rattle.records.specs.Record.{Record, Records, nil, _▸_, text, field, is, 
 use Rattle.rast.specs.Path.{Name, Path, MSel}
 use Rattle.rast.specs.Operation.{Operation}
 use Rattle.rast.specs.Mod.{Mod·Fold}
-use Rattle.factor_paths.specs.Mapping.{Mapping, noMapping, equal}
+use Rattle.factor_paths.specs.Mapping.{noMapping}
 use Rattle.factor_paths.specs.PathsVisitor.{marked, unmarked, VisitModDeclSingle}
 use Rattle.factor_paths.specs.Apply.{mappings}
 
--- the path of UseDecl(Use(visibility, path)), and the name that it ends in
+-- the path of UseDecl(Use(visibility, path)), and the name that this path ends in
 abbrev pub pathOf : Record → Path
 pathOf d = field 1 (field 0 d)
 

@@ -1,20 +1,20 @@
 -- 01, "Points and looking up", its first paragraph, and demand 3. Assumes nothing: these are definitions.
 use mathlib.Core.Path.{_≡_}
 use mathlib.Core.List.{List, []}
-use mathlib.Core.Bool.{Bool, true, _&&_, cond}
+use mathlib.Core.Bool.{true, _&&_, cond}
 use Prim.Native.Nat.{ℕ, zero, suc, _-_}
 use lib.ListN.{take}
 use lib.Dec.{eqb}
 use Rattle.answers.specs.declared.Answer.the-variants.{Shortened}
-use Rattle.wire.specs.Numbers.{Bytes}
-use Rattle.records.specs.Record.{Record, Records, leaf, node, nil, _▸_, kind, text, children, field, is, update, put, count, first, skip, encode, tree}
+use Rattle.wire.specs.Numbers.{Bytes, AreBytes}
+use Rattle.records.specs.Record.{Record, Records, leaf, node, nil, _▸_, kind, children, field, update, put, count, first, skip, encode, tree}
 use Rattle.rast.specs.Path.{Name, Path, MSel}
-use Rattle.rast.specs.Operation.{Operation}
+use Rattle.rast.specs.Operation.{Operation, nested}
 use Rattle.rast.specs.Mod.{nameOf}
 use Rattle.factor_paths.specs.Mapping.{equal}
-use Rattle.factor_paths.specs.Apply.{TIdentifier, TSynonym, Identifier}
-use Rattle.outcome.specs.Outcome.{Outcome, shorten}
-use Rattle.points.specs.LookUp.{pathOf, borne, bare, barePath, unmarkedAll, namesBorne, lookUp, collected, own, different}
+use Rattle.factor_paths.specs.Apply.{TIdentifier, TSynonym, Identifier, apply}
+use Rattle.outcome.specs.Outcome.{shorten}
+use Rattle.points.specs.LookUp.{pathOf, bare, barePath, unmarkedAll, namesBorne, lookUp, collected, own, different}
 
 -- the innermost Mod around a point: its prefix, the uses put ahead of its body, the names that it collects; and the prefix that a Mod in it has
 pub record Module : Type 0 where
@@ -23,16 +23,17 @@ pub record Module : Type 0 where
   pub names : List Name
   pub inner : Name → Path
 
--- the uses put ahead of a Mod's body in the output, by which it is longer than the card's; and the Mod with them put aside
-abbrev pub ahead : Record → Record → ℕ
-ahead this that = count (children (field 3 that)) - count (children (field 3 this))
+-- how many uses are put ahead of a Mod's body in the output: by so many it is longer than the card's; and the Mod with them put aside
+abbrev pub putAhead : Record → Record → ℕ
+putAhead this that = count (children (field 3 that)) - count (children (field 3 this))
 
 abbrev pub putAside : Record → Record → Record
-putAside this that = update 3 (λ body. put (skip (ahead this that) (children body)) body) that
+putAside this that = update 3 (λ body. put (skip (putAhead this that) (children body)) body) that
 
+-- each is a UseDecl, and its path ends in a name
 unfoldable pub UseDecls : Records → Type 0
 UseDecls nil = Unit {0}
-UseDecls (d ▸ uses) = (kind d ≡ 0x6A) × UseDecls uses
+UseDecls (d ▸ uses) = (kind d ≡ 0x6A) × (kind (pathOf d) ≡ 0x13) × UseDecls uses
 
 -- n synonyms, base in base, each displaying TIdentifier of the name, down to a record
 unfoldable pub synonyms : Name → ℕ → Record → Record
@@ -50,7 +51,7 @@ meeting k j =
     (cond (eqb k 0x60) module′ elsewhere))
 
 module _ (op : Operation) where
-  -- looking the name up in module m gives the path, if no name that m collects ends in '!'
+  -- looking the name up in module m gives the path, if no name that m collects ends in '!'; upstream, two paths are equal when their bytes are
   abbrev pub Finds : Module → Name → Path → Type 0
   Finds m name p = unmarkedAll (m .names) ≡ true → equal op (lookUp op (m .uses) (m .prefix) name) p ≡ true
 
@@ -67,17 +68,17 @@ module _ (op : Operation) where
 
   -- the names that the uses bear are pairwise different, and none is collected as the name of one of the module's own declarations
   pub record Ahead (m : Module) (this : Record) : Type 0 where
-    pub uses : UseDecls (m .uses)
-    pub names : different op (own op this (m .prefix)) (namesBorne (m .uses)) ≡ true
+    pub areUses : UseDecls (m .uses)
+    pub areDifferent : different op (own op this (m .prefix)) (namesBorne (m .uses)) ≡ true
 
   abbrev pub moduleOf : Module → Record → Record → Module
   moduleOf around this that =
       let prefix : Path = around .inner (nameOf this) in
       record {
         prefix = prefix;
-        uses = first (ahead this that) (children (field 3 that));
+        uses = first (putAhead this that) (children (field 3 that));
         names = collected op this prefix;
-        inner = λ name. op .entering (MSel prefix name) name;
+        inner = nested op prefix;
       }
 
   -- this of the card beside that of the output, neither a Text nor a Kept; parts says it of their children
@@ -106,14 +107,16 @@ module _ (op : Operation) where
   abbrev pub outside : Path → Module
   outside root = record { prefix = root; uses = nil; names = []; inner = MSel root }
 
+  -- the three are the bytes of their trees, the output is the tree that the text defines, and each point of it holds
   pub record NamesHold (card root output : Bytes) : Type 0 where
     pub card-tree : encode (tree card) ≡ card
     pub root-tree : encode (tree root) ≡ root
     pub output-tree : encode (tree output) ≡ output
+    pub defined : output ≡ encode (apply op (tree root) (tree card))
     pub points : Point (outside (tree root)) (tree card) (tree output)
 
   -- demand 3, of whatever is lent
   abbrev pub Demand3 : Type 0
   Demand3 =
-      (card root out : Bytes) (work : List ℕ) (n : ℕ) →
+      (card root out : Bytes) (work : List ℕ) (n : ℕ) → AreBytes card → AreBytes root →
       shorten op card root out work .answer ≡ Shortened n → NamesHold card root (take n (shorten op card root out work .out))

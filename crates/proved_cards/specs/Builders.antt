@@ -1,6 +1,5 @@
 -- The constructors of RAST that the proved cards are built of, over records.
-use mathlib.Core.List.{List, [], _∷_}
-use Prim.Native.Nat.{ℕ}
+use mathlib.Core.List.{[], _∷_}
 use Rattle.wire.specs.Numbers.{Bytes}
 use Rattle.records.specs.Record.{Record, Records, leaf, node, nil, _▸_}
 use Rattle.rast.specs.Path.{Name, Path}

@@ -4,9 +4,7 @@ use mathlib.Core.Bool.{_&&_, cond}
 use Prim.Native.Nat.{ℕ, _+_, _-_}
 use lib.ListN.{length, replicate}
 use lib.Dec.{leb}
-use Rattle.answers.specs.Answers.{number}
-use Rattle.answers.specs.declared.Answer.{Answer}
-use Rattle.answers.specs.declared.Answer.the-variants.{Shortened, ShortRecord, LeftOver, NoSpace}
+use Rattle.answers.specs.Answers.{number, value}
 use Rattle.wire.specs.Numbers.{Bytes}
 use Rattle.records.specs.Record.{Record, Records, nil, _▸_, encode}
 use Rattle.rast.specs.Path.{Name, Path, Global, Self, MSel, «dafny_runtime»}
@@ -16,12 +14,13 @@ use Rattle.factor_paths.specs.Apply.{TIdentifier, TSynonym, Identifier}
 use Rattle.outcome.specs.Outcome.{Outcome, shorten}
 use Rattle.proved_cards.specs.Builders.{Crate, Bool′, TypeFromPath, Borrowed, RawExpr, ExprFromType, ExprFromPath, Mod, ExternMod, ModDecl, ImplDecl, Impl, constant, struct, Field, function}
 
--- a card, its length, the length of the out buffer that is lent with it, the answer and the output (of a refusal: none)
+-- a card, its length, the length of the out buffer that is lent with it; the answer's number and its length or place, and the output (of a refusal: none)
 pub record ProvedCard : Type 0 where
   pub card : Bytes
   pub long : ℕ
   pub room : ℕ
-  pub answer : Answer
+  pub answers : ℕ
+  pub with : ℕ
   pub output : Bytes
 
 -- names
@@ -77,7 +76,7 @@ constants t u = constant k1 t (RawExpr []) ▸ constant k2 u (RawExpr []) ▸ ni
 
 -- a card of so many bytes that is accepted, with so many bytes put out; one byte more is lent
 abbrev accepted : (long n : ℕ) → Record → Record → ProvedCard
-accepted long n r s = record { card = encode r; long = long; room = n + 1; answer = Shortened n; output = encode s }
+accepted long n r s = record { card = encode r; long = long; room = n + 1; answers = 0; with = n; output = encode s }
 
 abbrev unchanged : ℕ → Record → ProvedCard
 unchanged n r = accepted n n r r
@@ -85,14 +84,20 @@ unchanged n r = accepted n n r r
 abbrev P3-card : Record
 P3-card = Mod m (ImplDecl (Impl (TypeFromPath (MSel Global B))) ▸ nil)
 
+abbrev P3-made : Record
+P3-made = Mod m (useDecl (MSel Global B) ▸ ImplDecl (Impl (short B (MSel Global B))) ▸ nil)
+
+abbrev P1-bytes : Bytes
+P1-bytes = 9 ∷ 0 ∷ 0 ∷ 0 ∷ 0x61 ∷ 0 ∷ 3 ∷ 0 ∷ 0 ∷ 0 ∷ 1 ∷ 0 ∷ 0x61 ∷ []
+
 unfoldable pub provedCards : List ProvedCard
 provedCards =
-    -- P1, P2
-    unchanged 13 (ExternMod a)
+    -- P1, its bytes as 01 spells them; P2
+    record { card = P1-bytes; long = 13; room = 40; answers = 0; with = 13; output = encode (ExternMod a) }
     ∷ unchanged 31 (Mod m nil)
-    -- P3: one use ::B; P4: one byte short
-    ∷ accepted 80 137 P3-card (Mod m (useDecl (MSel Global B) ▸ ImplDecl (Impl (short B (MSel Global B))) ▸ nil))
-    ∷ record { card = encode P3-card; long = 80; room = 136; answer = NoSpace; output = [] }
+    -- P3: one use ::B, and a buffer that just holds it; P4: one byte short
+    ∷ record { card = encode P3-card; long = 80; room = 137; answers = 0; with = 137; output = encode P3-made }
+    ∷ record { card = encode P3-card; long = 80; room = 136; answers = 9; with = 0; output = [] }
     -- P5: ::a::X and ::b::X
     ∷ unchanged 195 (Mod m (constants (TypeFromPath (from a X)) (TypeFromPath (from b X))))
     -- P6: dafny_runtime::X and ::a::X; one use, ::a::X stays long
@@ -124,22 +129,29 @@ provedCards =
     (Mod m (ModDecl (Mod b (constants (TypeFromPath (MSel (MSel (MSel (MSel Crate m) b) b) X)) (TypeFromPath (from c Y)))) ▸ nil))
     (Mod m (ModDecl (Mod b (useDecl (from c Y) ▸ constants (short X (MSel (MSel (MSel (MSel Crate m) b) b) X)) (short Y (from c Y)))) ▸ nil))
     -- P14: a Mod with no content; P15: P1's card and one byte more
-    ∷ record { card = 2 ∷ 0 ∷ 0 ∷ 0 ∷ 0x60 ∷ 0 ∷ []; long = 6; room = 40; answer = ShortRecord 6; output = [] }
-    ∷ record { card = encode (ExternMod a) ++ (0 ∷ []); long = 14; room = 40; answer = LeftOver 13; output = [] }
+    ∷ record { card = 2 ∷ 0 ∷ 0 ∷ 0 ∷ 0x60 ∷ 0 ∷ []; long = 6; room = 40; answers = 4; with = 6; output = [] }
+    ∷ record { card = P1-bytes ++ (0 ∷ []); long = 14; room = 40; answers = 7; with = 13; output = [] }
     ∷ []
 
--- what the lent memory held: 0xAA in each byte of the out buffer, 5 in each of 2,048 work words
-abbrev pub outcomeOf : ProvedCard → Outcome
-outcomeOf p = shorten upstream (p .card) (encode Crate) (replicate (p .room) 0xAA) (replicate 2048 5)
+-- the number, the length or place, and what the out buffer and the work words hold
+pub record Seen : Type 0 where
+  pub answers : ℕ
+  pub with : ℕ
+  pub out : Bytes
+  pub work : List ℕ
 
--- what 01 says: of an accepted card the output and then what the out buffer held, of a refused one what it held; the work zero but after reading's refusals
-abbrev pub workAfter : Answer → List ℕ
-workAfter answer = replicate 2048 (cond (leb 4 (number answer) && leb (number answer) 7) 5 0)
+-- lent with the card: an out buffer of bytes 0xAA, 2,048 work words of 5
+abbrev pub seen : ProvedCard → Seen
+seen p =
+    let o : Outcome = shorten upstream (p .card) (encode Crate) (replicate (p .room) 0xAA) (replicate 2048 5) in
+    record { answers = number (o .answer); with = value (o .answer); out = o .out; work = o .work }
 
-abbrev pub stated : ProvedCard → Outcome
+-- what 01 says: the output, and then what the out buffer held; the work words left after 1 to 7, and else zero
+abbrev pub stated : ProvedCard → Seen
 stated p =
     record {
-      answer = p .answer;
+      answers = p .answers;
+      with = p .with;
       out = (p .output) ++ replicate (p .room - length (p .output)) 0xAA;
-      work = workAfter (p .answer);
+      work = replicate 2048 (cond (leb 1 (p .answers) && leb (p .answers) 7) 5 0);
     }

@@ -6,7 +6,7 @@ use Rattle.records.specs.Record.{Record, Records, leaf, node, nil, _▸_}
 use Rattle.records.specs.Kinds.{stands, type, expr}
 
 -- what Fold and Replace do at a record: a Type and an Expr are folded or replaced; a List (a seq or an Option), a Formal, a MatchCase and
--- an AssignIdentifier only hold such; nothing else is entered, a Path included
+-- an AssignIdentifier only hold such; nothing else is entered, a Path neither
 pub data Role : Type 0 where
   aType anExpr holds other : Role
 
@@ -16,9 +16,9 @@ role k =
     (cond (stands expr k) anExpr
     (cond (eqb k 0x02 || eqb k 0x7E || eqb k 0x81 || eqb k 0x82) holds other))
 
-abbrev pub goOn : {T : Type 0} → Bool → T → (T → T) → T
-goOn true acc others = acc
-goOn false acc others = others acc
+abbrev pub unless : {T : Type 0} → Bool → T → (T → T) → T
+unless true acc others = acc
+unless false acc others = others acc
 
 module _ {T : Type 0} (f ft : T → Record → T) where
   -- the node, then its parts
@@ -36,7 +36,7 @@ module _ {T : Type 0} (f ft : T → Record → T) where
 
     pub FoldParts : Bool → T → Records → T
     FoldParts firstOnly acc nil = acc
-    FoldParts firstOnly acc (r ▸ c) = goOn firstOnly (Fold acc r) (λ acc. FoldParts false acc c)
+    FoldParts firstOnly acc (r ▸ c) = unless firstOnly (Fold acc r) (λ acc. FoldParts false acc c)
 
 module _ {T : Type 0} where
   abbrev pub Type·Fold : Record → T → (T → Record → T) → T

@@ -6,7 +6,7 @@ use Rattle.records.specs.Kinds.{Place, mod′}
 use Rattle.rast.specs.Path.{Name, Path, MSel}
 
 pub record Operation : Type 0 where
-  -- 01, "The console's answers": the limits of 1, 2, 3, 6 and 8, the last for so many lent words; and the outermost record
+  -- 01, "The console's answers": the limits of 1, 2, 3, 6 and 8 (mostPairs, for a number of lent words), and where the outermost record stands
   pub fewestWords : ℕ
   pub mostCardBytes : ℕ
   pub mostRootBytes : ℕ
@@ -20,6 +20,10 @@ pub record Operation : Type 0 where
   pub entering : Path → Name → Path
   -- whether ReplaceFn hands ReplaceType and ReplaceExpr to Replace, which walk again
   pub walksAgain : Bool
+
+-- the prefix of a module of this name in one whose prefix is SelfPath: ReplaceModDecl adds the name, and then PathSimplifier enters it
+abbrev pub nested : Operation → Path → Name → Path
+nested op SelfPath name = op .entering (MSel SelfPath name) name
 
 abbrev pub upstream : Operation
 upstream =

@@ -1,5 +1,4 @@
 -- Type.Replace and Expr.Replace of RAST, with Formal's, MatchCase's and AssignIdentifier's (01, Leaf 3 and Leaf 4). Assumes nothing: these are definitions.
-use Prim.Native.Nat.{ℕ}
 use Rattle.records.specs.Record.{Record, Records, leaf, node, nil, _▸_}
 use Rattle.rast.specs.Fold.{Role, aType, anExpr, holds, other, role}
 

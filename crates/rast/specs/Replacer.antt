@@ -1,5 +1,5 @@
 -- RASTBottomUpReplacer of RAST, function by function. A field is given by its place in its constructor, and the constructor beside its kind. Assumes nothing: these are definitions.
-use mathlib.Core.List.{List, [], _∷_}
+use mathlib.Core.List.{[], _∷_}
 use mathlib.Core.Bool.{cond}
 use Rattle.records.specs.Record.{Record, Records, nil, _▸_, _▸▸_, update, put, Map}
 use Rattle.rast.specs.Path.{Path, MSel}

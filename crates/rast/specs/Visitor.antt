@@ -1,6 +1,6 @@
 -- RASTTopDownVisitor of RAST, function by function. A field is given by its place in its constructor, and the constructor beside its kind.
 -- The pass makes visitors with recurseSubmodules false alone, so a nested module is not entered. Assumes nothing: these are definitions.
-use mathlib.Core.List.{List, [], _∷_}
+use mathlib.Core.List.{[], _∷_}
 use Rattle.records.specs.Record.{Record, children, field, FoldLeft}
 use Rattle.rast.specs.Path.{Path}
 use Rattle.rast.specs.Mod.{case, match, Mod·Fold}

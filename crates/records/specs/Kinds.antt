@@ -5,7 +5,7 @@ use Prim.Native.Nat.{ℕ}
 use lib.Dec.{eqb, leb}
 use Rattle.records.specs.Record.{isLeaf}
 
--- what stands at a place: one record of a kind from the first to the last; the Text that names a path's end; a seq; an Option
+-- what stands at a place: one record of a kind from the first to the last; the Text that a PMemberSelect holds, which a later reading may look into; a seq; an Option
 pub data Place : Type 0 where
   kinds : ℕ → ℕ → Place
   name : Place
@@ -33,11 +33,11 @@ expr = kinds 0x40 0x5E
 abbrev pub mod′ : Place
 mod′ = kinds 0x60 0x61
 
-abbrev text : Place
-text = one 0x01
+abbrev aText : Place
+aText = one 0x01
 
-abbrev kept : Place
-kept = one 0x03
+abbrev aKept : Place
+aKept = one 0x03
 
 abbrev typeParams : Place
 typeParams = seq (one 0x7F)
@@ -73,7 +73,7 @@ rows =
     ∷ row 0x29 []  -- I128
     ∷ row 0x2A []  -- USIZE
     ∷ row 0x2B []  -- Bool
-    ∷ row 0x2C (text ∷ [])  -- TIdentifier(name)
+    ∷ row 0x2C (aText ∷ [])  -- TIdentifier(name)
     ∷ row 0x2D (path ∷ [])  -- TypeFromPath(path)
     ∷ row 0x2E (type ∷ seq type ∷ [])  -- TypeApp(baseName, arguments)
     ∷ row 0x2F (type ∷ [])  -- Borrowed(underlying)
@@ -83,42 +83,42 @@ rows =
     ∷ row 0x33 (seq type ∷ [])  -- TupleType(arguments)
     ∷ row 0x34 (seq type ∷ type ∷ [])  -- FnType(arguments, returnType)
     ∷ row 0x35 (type ∷ type ∷ [])  -- IntersectionType(left, right)
-    ∷ row 0x36 (type ∷ option text ∷ [])  -- Array(underlying, size)
+    ∷ row 0x36 (type ∷ option aText ∷ [])  -- Array(underlying, size)
     ∷ row 0x37 (type ∷ type ∷ [])  -- TSynonym(display, base)
-    ∷ row 0x38 (type ∷ kept ∷ kept ∷ [])  -- TMetaData(display, copySemantics, overflow)
-    ∷ row 0x40 (text ∷ [])  -- RawExpr(content)
+    ∷ row 0x38 (type ∷ aKept ∷ aKept ∷ [])  -- TMetaData(display, copySemantics, overflow)
+    ∷ row 0x40 (aText ∷ [])  -- RawExpr(content)
     ∷ row 0x41 (type ∷ [])  -- ExprFromType(tpe)
-    ∷ row 0x42 (text ∷ [])  -- Identifier(name)
+    ∷ row 0x42 (aText ∷ [])  -- Identifier(name)
     ∷ row 0x43 (expr ∷ seq (one 0x81) ∷ [])  -- Match(matchee, cases)
     ∷ row 0x44 (expr ∷ expr ∷ [])  -- StmtExpr(stmt, rhs)
     ∷ row 0x45 (expr ∷ [])  -- Block(underlying)
     ∷ row 0x46 (expr ∷ seq (one 0x82) ∷ [])  -- StructBuild(underlying, assignments)
     ∷ row 0x47 (seq expr ∷ [])  -- Tuple(arguments)
-    ∷ row 0x48 (text ∷ expr ∷ kept ∷ [])  -- UnaryOp(op1, underlying, format)
-    ∷ row 0x49 (text ∷ expr ∷ expr ∷ kept ∷ [])  -- BinaryOp(op2, left, right, format2)
+    ∷ row 0x48 (aText ∷ expr ∷ aKept ∷ [])  -- UnaryOp(op1, underlying, format)
+    ∷ row 0x49 (aText ∷ expr ∷ expr ∷ aKept ∷ [])  -- BinaryOp(op2, left, right, format2)
     ∷ row 0x4A (expr ∷ type ∷ [])  -- TypeAscription(left, tpe)
     ∷ row 0x4B (type ∷ type ∷ [])  -- TraitCast(leftTpe, tpe)
-    ∷ row 0x4C (text ∷ [])  -- LiteralInt(value)
-    ∷ row 0x4D (kept ∷ [])  -- LiteralBool(bvalue)
-    ∷ row 0x4E (text ∷ kept ∷ kept ∷ [])  -- LiteralString(value, binary, verbatim)
-    ∷ row 0x4F (kept ∷ text ∷ option type ∷ option expr ∷ [])  -- DeclareVar(declareType, name, optType, optRhs)
-    ∷ row 0x50 (kept ∷ expr ∷ [])  -- Assign(names, rhs)
+    ∷ row 0x4C (aText ∷ [])  -- LiteralInt(value)
+    ∷ row 0x4D (aKept ∷ [])  -- LiteralBool(bvalue)
+    ∷ row 0x4E (aText ∷ aKept ∷ aKept ∷ [])  -- LiteralString(value, binary, verbatim)
+    ∷ row 0x4F (aKept ∷ aText ∷ option type ∷ option expr ∷ [])  -- DeclareVar(declareType, name, optType, optRhs)
+    ∷ row 0x50 (aKept ∷ expr ∷ [])  -- Assign(names, rhs)
     ∷ row 0x51 (expr ∷ expr ∷ expr ∷ [])  -- IfExpr(cond, thn, els)
     ∷ row 0x52 (option expr ∷ expr ∷ [])  -- Loop(optCond, underlying)
-    ∷ row 0x53 (text ∷ expr ∷ expr ∷ [])  -- For(name, range, body)
-    ∷ row 0x54 (text ∷ expr ∷ [])  -- Labelled(lbl, underlying)
-    ∷ row 0x55 (option text ∷ [])  -- Break(optLbl)
-    ∷ row 0x56 (option text ∷ [])  -- Continue(optLbl)
+    ∷ row 0x53 (aText ∷ expr ∷ expr ∷ [])  -- For(name, range, body)
+    ∷ row 0x54 (aText ∷ expr ∷ [])  -- Labelled(lbl, underlying)
+    ∷ row 0x55 (option aText ∷ [])  -- Break(optLbl)
+    ∷ row 0x56 (option aText ∷ [])  -- Continue(optLbl)
     ∷ row 0x57 (option expr ∷ [])  -- Return(optExpr)
     ∷ row 0x58 (expr ∷ seq type ∷ [])  -- CallType(obj, typeArguments)
     ∷ row 0x59 (expr ∷ seq expr ∷ [])  -- Call(obj, arguments)
-    ∷ row 0x5A (expr ∷ text ∷ [])  -- Select(obj, name)
+    ∷ row 0x5A (expr ∷ aText ∷ [])  -- Select(obj, name)
     ∷ row 0x5B (expr ∷ expr ∷ [])  -- SelectIndex(obj, range)
     ∷ row 0x5C (path ∷ [])  -- ExprFromPath(path)
-    ∷ row 0x5D (expr ∷ text ∷ [])  -- FunctionSelect(obj, name)
+    ∷ row 0x5D (expr ∷ aText ∷ [])  -- FunctionSelect(obj, name)
     ∷ row 0x5E (seq (one 0x7E) ∷ option type ∷ expr ∷ [])  -- Lambda(params, retType, body)
-    ∷ row 0x60 (text ∷ kept ∷ text ∷ seq (kinds 0x62 0x6A) ∷ [])  -- Mod(docString, attributes, name, body)
-    ∷ row 0x61 (text ∷ [])  -- ExternMod(name)
+    ∷ row 0x60 (aText ∷ aKept ∷ aText ∷ seq (kinds 0x62 0x6A) ∷ [])  -- Mod(docString, attributes, name, body)
+    ∷ row 0x61 (aText ∷ [])  -- ExternMod(name)
     ∷ row 0x62 (mod′ ∷ [])  -- ModDecl(mod)
     ∷ row 0x63 (one 0x70 ∷ [])  -- StructDecl(struct)
     ∷ row 0x64 (one 0x71 ∷ [])  -- TypeDecl(tpe)
@@ -128,28 +128,28 @@ rows =
     ∷ row 0x68 (one 0x7B ∷ [])  -- TraitDecl(tr)
     ∷ row 0x69 (one 0x7C ∷ [])  -- TopFnDecl(fn)
     ∷ row 0x6A (one 0x80 ∷ [])  -- UseDecl(use)
-    ∷ row 0x70 (text ∷ kept ∷ text ∷ typeParams ∷ fields ∷ [])  -- Struct(docString, attributes, name, typeParams, fields)
-    ∷ row 0x71 (text ∷ kept ∷ text ∷ typeParams ∷ type ∷ [])  -- TypeSynonym(docString, attributes, name, typeParams, tpe)
-    ∷ row 0x72 (text ∷ kept ∷ text ∷ type ∷ expr ∷ [])  -- Constant(docString, attributes, name, tpe, value)
-    ∷ row 0x73 (text ∷ kept ∷ text ∷ typeParams ∷ seq (one 0x74) ∷ [])  -- Enum(docString, attributes, name, typeParams, variants)
-    ∷ row 0x74 (text ∷ text ∷ fields ∷ [])  -- EnumCase(docString, name, fields)
+    ∷ row 0x70 (aText ∷ aKept ∷ aText ∷ typeParams ∷ fields ∷ [])  -- Struct(docString, attributes, name, typeParams, fields)
+    ∷ row 0x71 (aText ∷ aKept ∷ aText ∷ typeParams ∷ type ∷ [])  -- TypeSynonym(docString, attributes, name, typeParams, tpe)
+    ∷ row 0x72 (aText ∷ aKept ∷ aText ∷ type ∷ expr ∷ [])  -- Constant(docString, attributes, name, tpe, value)
+    ∷ row 0x73 (aText ∷ aKept ∷ aText ∷ typeParams ∷ seq (one 0x74) ∷ [])  -- Enum(docString, attributes, name, typeParams, variants)
+    ∷ row 0x74 (aText ∷ aText ∷ fields ∷ [])  -- EnumCase(docString, name, fields)
     ∷ row 0x75 (seq (one 0x77) ∷ [])  -- NamedFields(fields)
     ∷ row 0x76 (seq (one 0x78) ∷ [])  -- NamelessFields(types)
-    ∷ row 0x77 (kept ∷ one 0x7E ∷ [])  -- Field(visibility, formal)
-    ∷ row 0x78 (kept ∷ type ∷ [])  -- NamelessField(visibility, tpe)
+    ∷ row 0x77 (aKept ∷ one 0x7E ∷ [])  -- Field(visibility, formal)
+    ∷ row 0x78 (aKept ∷ type ∷ [])  -- NamelessField(visibility, tpe)
     ∷ row 0x79 (typeParams ∷ type ∷ type ∷ members ∷ [])  -- ImplFor(typeParams, tpe, forType, body)
     ∷ row 0x7A (typeParams ∷ type ∷ members ∷ [])  -- Impl(typeParams, tpe, body)
-    ∷ row 0x7B (text ∷ kept ∷ typeParams ∷ type ∷ seq type ∷ members ∷ [])  -- Trait(docString, attributes, typeParams, tpe, parents, body)
-    ∷ row 0x7C (text ∷ kept ∷ kept ∷ one 0x7D ∷ [])  -- TopFn(docString, attributes, visibility, fn)
-    ∷ row 0x7D (text ∷ typeParams ∷ seq (one 0x7E) ∷ option type ∷ option expr ∷ [])  -- Fn(name, typeParams, formals, returnType, body)
-    ∷ row 0x7E (text ∷ type ∷ [])  -- Formal(name, tpe)
-    ∷ row 0x7F (text ∷ seq type ∷ [])  -- TypeParamDecl(name, constraints)
-    ∷ row 0x80 (kept ∷ path ∷ [])  -- Use(visibility, path)
-    ∷ row 0x81 (kept ∷ expr ∷ [])  -- MatchCase(pattern, rhs)
-    ∷ row 0x82 (text ∷ expr ∷ [])  -- AssignIdentifier(identifier, rhs)
-    ∷ row 0x83 (text ∷ [])  -- RawImplMember(content)
-    ∷ row 0x84 (text ∷ kept ∷ kept ∷ one 0x7D ∷ [])  -- FnDecl(docString, attributes, pub, fun)
-    ∷ row 0x85 (text ∷ type ∷ [])  -- TypeDeclMember(name, rhs)
+    ∷ row 0x7B (aText ∷ aKept ∷ typeParams ∷ type ∷ seq type ∷ members ∷ [])  -- Trait(docString, attributes, typeParams, tpe, parents, body)
+    ∷ row 0x7C (aText ∷ aKept ∷ aKept ∷ one 0x7D ∷ [])  -- TopFn(docString, attributes, visibility, fn)
+    ∷ row 0x7D (aText ∷ typeParams ∷ seq (one 0x7E) ∷ option type ∷ option expr ∷ [])  -- Fn(name, typeParams, formals, returnType, body)
+    ∷ row 0x7E (aText ∷ type ∷ [])  -- Formal(name, tpe)
+    ∷ row 0x7F (aText ∷ seq type ∷ [])  -- TypeParamDecl(name, constraints)
+    ∷ row 0x80 (aKept ∷ path ∷ [])  -- Use(visibility, path)
+    ∷ row 0x81 (aKept ∷ expr ∷ [])  -- MatchCase(pattern, rhs)
+    ∷ row 0x82 (aText ∷ expr ∷ [])  -- AssignIdentifier(identifier, rhs)
+    ∷ row 0x83 (aText ∷ [])  -- RawImplMember(content)
+    ∷ row 0x84 (aText ∷ aKept ∷ aKept ∷ one 0x7D ∷ [])  -- FnDecl(docString, attributes, pub, fun)
+    ∷ row 0x85 (aText ∷ type ∷ [])  -- TypeDeclMember(name, rhs)
     ∷ row 0x86 (expr ∷ [])  -- ImplMemberMacro(expr)
     ∷ []
 

@@ -1,10 +1,9 @@
 -- 01, "The console's answers", 4 to 7: reading, with the first fault in 01's order. Assumes nothing: these are definitions.
-use mathlib.Core.List.{List, [], _∷_}
+use mathlib.Core.List.{[], _∷_}
 use mathlib.Core.Bool.{Bool, not, _||_, cond}
 use Prim.Native.Nat.{ℕ, zero, suc, _+_}
 use lib.ListN.{length}
 use lib.Dec.{ltb}
-use Rattle.answers.specs.declared.Answer.{Answer}
 use Rattle.answers.specs.declared.Answer.the-variants.{ShortRecord, WrongKind, TooDeep, LeftOver}
 use Rattle.answers.specs.declared.Verdict.{Verdict}
 use Rattle.answers.specs.declared.Verdict.the-variants.{Sound, Refused}
@@ -12,7 +11,7 @@ use Rattle.wire.specs.Numbers.{Bytes}
 use Rattle.records.specs.Record.{lengthOf, kindOf, contentOf, restOf}
 use Rattle.records.specs.Kinds.{Place, stands, Content, bytes, these, any, atMostOne, contentAt}
 
--- what a content asks of the bytes that are left of it: nothing more, that none are left, or a record at a place and then more
+-- what comes next in a content, by the bytes that are left of it: nothing; bytes that should not be there; or a record at a place, and then more
 pub data Next : Type 0 where
   done leftOver : Next
   record-at : Place → Content → Next
@@ -40,13 +39,13 @@ abbrev pub step : Next → (limit depth at : ℕ) → Bytes → (Content → Ver
 step done limit depth at s content rest = Sound
 step leftOver limit depth at s content rest = Refused (LeftOver at)
 step (record-at p more) limit depth at s content rest =
-    let behind : Verdict = rest more in
-    let below : Verdict = andThen (content (contentAt p (kindOf s))) behind in
+    let following : Verdict = rest more in
+    let whole : Verdict = andThen (content (contentAt p (kindOf s))) following in
     cond (short s) (Refused (ShortRecord at))
     (cond (not (stands p (kindOf s))) (Refused (WrongKind at))
-    (cond (ltb limit depth) (Refused (TooDeep at)) below))
+    (cond (ltb limit depth) (Refused (TooDeep at)) whole))
 
--- a content's bytes s, which stand at place at of the card and hold records at this depth, at most limit deep; n bounds the records met
+-- a content's bytes s, which stand at place at of the card and hold records at this depth, at most limit deep; n bounds how many follow or hold one another
 unfoldable pub read : (limit n : ℕ) → Content → (depth at : ℕ) → Bytes → Verdict
 read limit zero c depth at s = Sound
 read limit (suc n) c depth at s =
@@ -54,6 +53,6 @@ read limit (suc n) c depth at s =
     (λ inner. read limit n inner (depth + 1) (at + 6) (contentOf s))
     (λ more. read limit n more depth (at + (4 + lengthOf s)) (restOf s))
 
--- exactly one record that stands at a place, at most limit deep: the outermost is 1 deep, and more bytes than there are bound the records
+-- exactly one record that stands at a place, at most limit deep: the outermost is 1 deep, and one more than there are bytes suffices for n
 unfoldable pub reading : ℕ → Place → Bytes → Verdict
 reading limit p s = read limit (suc (length s)) (these (p ∷ [])) 1 0 s

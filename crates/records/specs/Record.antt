@@ -1,5 +1,5 @@
 -- 01, Leaf 1: records, their tree and their bytes. Assumes nothing: these are definitions.
-use mathlib.Core.List.{List, [], _∷_, _++_}
+use mathlib.Core.List.{[], _∷_, _++_}
 use mathlib.Core.Bool.{Bool, _||_, cond}
 use Prim.Native.Nat.{ℕ, zero, suc, _+_, _-_}
 use lib.ListN.{length, take, drop}
@@ -55,7 +55,6 @@ parse (suc n) (b ∷ t) =
     let inner : Record = node (kindOf s) (parse n (contentOf s)) in
     cond (isLeaf (kindOf s)) (leaf (kindOf s) (contentOf s)) inner ▸ parse n (restOf s)
 
--- the fields of a record, in the order of its constructor's: a field that is not there is an empty Text
 abbrev pub kind : Record → ℕ
 kind (leaf k b) = k
 kind (node k c) = k
@@ -68,6 +67,7 @@ abbrev pub children : Record → Records
 children (leaf k b) = nil
 children (node k c) = c
 
+-- the fields of a record are in the order of its constructor's, from 0; one that is not there is an empty Text
 unfoldable pub nth : ℕ → Records → Record
 nth i nil = leaf 0x01 []
 nth zero (r ▸ c) = r
@@ -83,7 +83,7 @@ is k r = eqb (kind r) k
 unfoldable pub tree : Bytes → Record
 tree s = nth 0 (parse (length s) s)
 
--- a record with a field put in another's place: Dafny's r.(field := ..)
+-- a record with f of its field i in that field's place: Dafny's r.(field := ..)
 unfoldable pub setNth : ℕ → (Record → Record) → Records → Records
 setNth i f nil = nil
 setNth zero f (r ▸ c) = f r ▸ c
@@ -98,7 +98,7 @@ abbrev pub put : Records → Record → Record
 put d (leaf k b) = leaf k b
 put d (node k c) = node k d
 
--- Dafny's sequences: one after another, their length, FoldLeft and Seq.Map
+-- Dafny's sequences: one after another, their length, what follows and what are the first n, FoldLeft and Seq.Map
 infixr 45 _▸▸_
 unfoldable pub _▸▸_ : Records → Records → Records
 _▸▸_ nil d = d

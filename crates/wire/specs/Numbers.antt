@@ -1,13 +1,18 @@
 -- Numbers in bytes, the lowest byte first (01, Leaf 1). Assumes nothing: these are definitions.
 use mathlib.Core.List.{List, [], _∷_}
 use mathlib.Core.Bool.{Bool, true, false, _&&_}
-use Prim.Native.Nat.{ℕ, zero, suc, _+_, _*_, _/_, _%_}
+use Prim.Native.Nat.{ℕ, zero, suc, _+_, _*_, _/_, _%_, _<_}
 use lib.Dec.{eqb}
 
 abbrev pub Bytes : Type 0
 Bytes = List ℕ
 
--- n in w bytes
+-- what is lent as bytes: each element is under 256
+unfoldable pub AreBytes : Bytes → Type 0
+AreBytes [] = Unit {0}
+AreBytes (b ∷ s) = (b < 256) × AreBytes s
+
+-- the lowest w bytes of n
 unfoldable pub le : ℕ → ℕ → Bytes
 le zero n = []
 le (suc w) n = n % 256 ∷ le w (n / 256)

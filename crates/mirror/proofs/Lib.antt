@@ -1,3 +1,4 @@
 pub mod Folds
 pub mod Replaces
 pub mod Visits
+pub mod Replacements

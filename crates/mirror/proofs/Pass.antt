@@ -5,7 +5,7 @@ use mathlib.Core.Option.{Option, none, some, Option·map}
 use mathlib.Core.Bool.{Bool as 𝔹, true, false, _&&_, cond}
 use Prim.Native.Nat.{ℕ, zero, suc}
 use Rattle.wire.specs.Numbers.{sameBytes}
-use Rattle.records.specs.Record.{Record, Records, leaf, node, nil, _▸_, nth, setNth, is, field}
+use Rattle.records.specs.Record.{Record, Records, leaf, node, nil, _▸_, nth, setNth, is, field, update, put, children, _▸▸_}
 use Rattle.rast.specs.Path.{whether}
 use Rattle.rast.specs.Operation.{upstream}
 use Rattle.rast.specs.Visitor.{VisitMod}
@@ -23,7 +23,7 @@ use Rattle.mirror.specs.FactorPaths as Text
 use Rattle.mirror.specs.Tree.{text, kept, list, Path·tree, Type·tree, Expr·tree, Struct·tree, TypeSynonym·tree, Constant·tree, Enum·tree, Fn·tree, Trait·tree, TopFnDecl·tree, Mod·tree, ModDecl·tree, ModDecls·trees}
 use Rattle.mirror.proofs.Mappings.{past-cond, same-path, get-other, mapping, add-tree, final-trees, to-final-tree, to-use-tree}
 use Rattle.mirror.proofs.Visits.{visit-mod}
-use Rattle.mirror.proofs.Replacements.{append-trees, name-tree, replace-mod}
+use Rattle.mirror.proofs.Replacements.{append-trees, name-tree, path-tree, replace-mod}
 
 -- PathsVisitor's single functions
 visit-selected : (acc : Text.Mapping) (k : string) (b : Path) → cond (Rattle.factor_paths.specs.Mapping.equal upstream (Path·tree b) Rattle.rast.specs.Path.Self) (mapping acc) (Add upstream (mapping acc) k (Path·tree b)) ≡ mapping (cond (Text.samePath b Self) acc (Text.Add acc k b))
@@ -267,3 +267,46 @@ replace-expr-single r (ExprFromPath Self) = refl
 replace-expr-single r (ExprFromPath (PMemberSelect b n)) = replace-selected r n b
 replace-expr-single r (FunctionSelect a b) = refl
 replace-expr-single r (Lambda a b c) = refl
+
+-- the text's local variables in applyPrefix
+abbrev mappings′ : Mod → Path → Text.Mapping
+mappings′ m p = TextVisitor.VisitMod Text.PathsVisitor m (record { provenance = []; keys = [] }) p
+
+abbrev removed′ : Mod → Path → Text.FinalReplacement
+removed′ m p = Text.ToFinalReplacement (mappings′ m p .provenance) p
+
+removed-tree : (m : Mod) (p : Path) → pathsToRemove upstream (Mod·tree m) (Path·tree p) ≡ final-trees (removed′ m p)
+unfolding pathsToRemove
+removed-tree m p = rw (collected m p) (to-final-tree p (mappings′ m p .provenance))
+
+imports-tree : (m : Mod) (p : Path) → imports upstream (Mod·tree m) (Path·tree p) ≡ ModDecls·trees (Text.ToUseStatements (mappings′ m p .keys) (removed′ m p) p)
+unfolding imports
+imports-tree m p = rw (removed-tree m p, collected m p) (to-use-tree (mappings′ m p .keys) (removed′ m p) p)
+
+-- mod.(body := imports + mod.body)
+with-imports-tree : (is : ModDecls) (m : Mod) → update 3 (λ body. put (ModDecls·trees is ▸▸ children body) body) (Mod·tree m) ≡ Mod·tree (Text.withImports is m)
+unfolding Mod·tree setNth
+with-imports-tree is (Mod′ d a n ds) = ap (λ c. node 0x60 (text d ▸ kept a ▸ text n ▸ list c ▸ nil)) (append-trees is ds)
+with-imports-tree is (ExternMod n) = refl
+
+simplified-tree : (f : Record → Record → Record) (f′ : Mod → Path → Mod) → ((m : Mod) (p : Path) → f (Mod·tree m) (Path·tree p) ≡ Mod·tree (f′ m p)) → (r : Text.FinalReplacement) (m : Mod) (p : Path) →
+    ReplaceMod upstream (PathSimplifier upstream f (final-trees r)) (Mod·tree m) (Path·tree p) ≡ Mod·tree (TextReplacer.ReplaceMod (Text.PathSimplifier f′ r) m p)
+unfolding PathSimplifier Text.PathSimplifier
+simplified-tree f f′ h r m p =
+    replace-mod upstream refl (PathSimplifier upstream f (final-trees r)) (Text.PathSimplifier f′ r) single (replace-type-single r) (replace-expr-single r) m p
+  where
+    single : (m : Mod) (p : Path) → f (Mod·tree m) (Rattle.rast.specs.Path.MSel (Path·tree p) (Rattle.rast.specs.Mod.nameOf (Mod·tree m))) ≡ Mod·tree (f′ m (MSel p (Mod·name m)))
+    single m p = ap (f (Mod·tree m)) (path-tree p m) ∙ h m (MSel p (Mod·name m))
+
+-- one module, if the modules in it come out as the text's do
+prefix-step : (f : Record → Record → Record) (f′ : Mod → Path → Mod) → ((m : Mod) (p : Path) → f (Mod·tree m) (Path·tree p) ≡ Mod·tree (f′ m p)) → (m : Mod) (p : Path) →
+    update 3 (λ body. put (imports upstream (Mod·tree m) (Path·tree p) ▸▸ children body) body)
+    (ReplaceMod upstream (PathSimplifier upstream f (pathsToRemove upstream (Mod·tree m) (Path·tree p))) (Mod·tree m) (Path·tree p))
+    ≡ Mod·tree (Text.withImports (Text.ToUseStatements (mappings′ m p .keys) (removed′ m p) p) (TextReplacer.ReplaceMod (Text.PathSimplifier f′ (removed′ m p)) m p))
+prefix-step f f′ h m p = rw (imports-tree m p, removed-tree m p, simplified-tree f f′ h (removed′ m p) m p) (with-imports-tree _ _)
+
+pub apply-prefix : (n : ℕ) (m : Mod) (p : Path) → applyPrefix upstream n (Mod·tree m) (Path·tree p) ≡ Mod·tree (Text.applyPrefix n m p)
+unfolding applyPrefix Text.applyPrefix Mod·tree
+apply-prefix zero m p = refl
+apply-prefix (suc n) (Mod′ d a name ds) p = prefix-step (applyPrefix upstream n) (Text.applyPrefix n) (λ m q. apply-prefix n m q) (Mod′ d a name ds) p
+apply-prefix (suc n) (ExternMod name) p = refl

@@ -48,6 +48,11 @@ unfolding Mod·tree nth
 name-tree (Mod′ d a n ds) = refl
 name-tree (ExternMod n) = refl
 
+-- SelfPath.MSel(mod.name)
+pub path-tree : (p : Path) (m : Mod) → Rattle.rast.specs.Path.MSel (Path·tree p) (Rattle.rast.specs.Mod.nameOf (Mod·tree m)) ≡ Path·tree (MSel p (Mod·name m))
+unfolding Path·tree
+path-tree p m = ap (Rattle.rast.specs.Path.MSel (Path·tree p)) (name-tree m)
+
 module _ (op : Operation) (again : op .walksAgain ≡ true) (r : RASTBottomUpReplacer) (r′ : Text.RASTBottomUpReplacer)
   (hm : (m : Mod) (p : Path) → r .ReplaceModSingle (Mod·tree m) (Path·tree p) ≡ Mod·tree (r′ .ReplaceModSingle m p))
   (ht : (t : «Type») → r .ReplaceTypeSingle (Type·tree t) ≡ Type·tree (r′ .ReplaceTypeSingle t))
@@ -152,13 +157,9 @@ module _ (op : Operation) (again : op .walksAgain ≡ true) (r : RASTBottomUpRep
   unfolding ReplaceUse Text.ReplaceUse
   use′ (Use′ k p) = refl
 
-  path′ : (p : Path) (m : Mod) → Rattle.rast.specs.Path.MSel (Path·tree p) (Rattle.rast.specs.Mod.nameOf (Mod·tree m)) ≡ Path·tree (MSel p (Mod·name m))
-  unfolding Path·tree
-  path′ p m = ap (Rattle.rast.specs.Path.MSel (Path·tree p)) (name-tree m)
-
   decl′ : (d : ModDecl) (p : Path) → ReplaceModDecl op r (ModDecl·tree d) (Path·tree p) ≡ ModDecl·tree (Text.ReplaceModDecl r′ d p)
   unfolding ReplaceModDecl Text.ReplaceModDecl ModDecl·tree setNth
-  decl′ (ModDecl′ m) p = ap (λ q. node 0x62 (r .ReplaceModSingle (Mod·tree m) q ▸ nil)) (path′ p m) ∙ ap (λ u. node 0x62 (u ▸ nil)) (hm m _)
+  decl′ (ModDecl′ m) p = ap (λ q. node 0x62 (r .ReplaceModSingle (Mod·tree m) q ▸ nil)) (path-tree p m) ∙ ap (λ u. node 0x62 (u ▸ nil)) (hm m _)
   decl′ (StructDecl s) p = rw (struct′ s)
   decl′ (TypeDecl t) p = rw (typeSynonym′ t)
   decl′ (ConstDecl c) p = rw (constant′ c)

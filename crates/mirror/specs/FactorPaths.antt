@@ -275,7 +275,9 @@ withImports imports (ExternMod name) = ExternMod name
 -- a depth that falls, for m < mParent
 unfoldable pub applyPrefix : ℕ → Mod → Path → Mod
 applyPrefix zero m SelfPath = m
-applyPrefix (suc n) m SelfPath =
+applyPrefix (suc n) (ExternMod name) SelfPath = ExternMod name
+applyPrefix (suc n) (Mod′ docString attributes name body) SelfPath =
+    let m : Mod = Mod′ docString attributes name body in
     let mappings : Mapping = VisitMod PathsVisitor m (record { provenance = []; keys = [] }) SelfPath in
     let pathsToRemove : FinalReplacement = ToFinalReplacement (mappings .provenance) SelfPath in
     let imports : ModDecls = ToUseStatements (mappings .keys) pathsToRemove SelfPath in

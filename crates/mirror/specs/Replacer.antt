@@ -18,11 +18,6 @@ unfoldable pub _++ᵐ_ : ModDecls → ModDecls → ModDecls
 _++ᵐ_ []ᵐ ds = ds
 _++ᵐ_ (c ∷ᵐ cs) ds = c ∷ᵐ (cs ++ᵐ ds)
 
--- mod.(body := body)
-abbrev pub withBody : ModDecls → Mod → Mod
-withBody body (Mod′ docString attributes name old) = Mod′ docString attributes name body
-withBody body (ExternMod name) = ExternMod name
-
 module _ (this : RASTBottomUpReplacer) where
   unfoldable pub ReplaceType : «Type» → «Type»
   ReplaceType t = Type·Replace (this .ReplaceTypeSingle) t
@@ -108,8 +103,8 @@ module _ (this : RASTBottomUpReplacer) where
   ReplaceModDecl (TopFnDecl′ fn) SelfPath = TopFnDecl′ (ReplaceTopFn fn)
   ReplaceModDecl (UseDecl u) SelfPath = UseDecl (ReplaceUse u)
 
-  -- an ExternMod comes back: withBody leaves it
   unfoldable pub ReplaceMod : Mod → Path → Mod
-  ReplaceMod m SelfPath =
-      let newModDeclarations : ModDecls = Mod·Fold m []ᵐ (λ current modDecl. current ++ᵐ (ReplaceModDecl modDecl SelfPath ∷ᵐ []ᵐ)) in
-      withBody newModDeclarations m
+  ReplaceMod (ExternMod name) SelfPath = ExternMod name
+  ReplaceMod (Mod′ docString attributes name body) SelfPath =
+      let newModDeclarations : ModDecls = Mod·Fold (Mod′ docString attributes name body) []ᵐ (λ current modDecl. current ++ᵐ (ReplaceModDecl modDecl SelfPath ∷ᵐ []ᵐ)) in
+      Mod′ docString attributes name newModDeclarations

@@ -4,3 +4,4 @@ pub mod Visits
 pub mod Replacements
 pub mod Mappings
 pub mod Pass
+pub mod Theorem

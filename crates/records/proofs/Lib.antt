@@ -1,3 +1,4 @@
 pub mod Fits
 pub mod Tree
 pub mod Step
+pub mod Sound

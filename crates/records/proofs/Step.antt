@@ -106,6 +106,17 @@ unfolding read
 read-bytes limit zero depth at s = refl
 read-bytes limit (suc n) depth at s = refl
 
+-- where nothing comes next, a content reads sound
+pub read-done : (limit n : ℕ) (c : Content) (depth at : ℕ) (s : Bytes) → next c s ≡ done → read limit n c depth at s ≡ Sound
+unfolding read
+read-done limit zero c depth at s e = refl
+read-done limit (suc n) c depth at s e = rw e
+
+-- what is left over does not read sound
+pub read-leftOver : (limit n : ℕ) (c : Content) (depth at : ℕ) (s : Bytes) → next c s ≡ leftOver → read limit (suc n) c depth at s ≡ Sound → ⊥
+unfolding read
+read-leftOver limit n c depth at s e h = let g = rw e at h in let z : _≡_ {A = ℕ} 0 1 = cc in omega arith
+
 -- what a sound reading says of the record that comes next: its content and what follows it read sound
 abbrev pub Next-sound : (limit n depth at : ℕ) → Bytes → Place → Content → Type 0
 Next-sound limit n depth at s p more = Stepped p more limit depth s (λ inner. read limit n inner (depth + 1) (at + 6) (contentOf s)) (λ rest. read limit n rest depth (at + (4 + lengthOf s)) (restOf s))

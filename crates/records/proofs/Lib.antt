@@ -2,3 +2,4 @@ pub mod Fits
 pub mod Tree
 pub mod Step
 pub mod Sound
+pub mod FitsRead

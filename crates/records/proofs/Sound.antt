@@ -11,7 +11,7 @@ use Rattle.records.specs.Record.{Record, Records, leaf, node, nil, _▸_
 use Rattle.records.specs.Kinds.{Place, stands, Content, bytes, these, any, atMostOne, contentAt}
 use Rattle.records.specs.Reading.{Next, done, leftOver, record-at, next, short, read, reading}
 use Rattle.records.proofs.Fits.{Fits, FitsAll}
-use Rattle.records.proofs.Tree.{long-enough, content-length, rest-length, content-bytes, rest-bytes, kind-small, length-small, split, parse-step, parse-nil, Canonical, CanonicalAll}
+use Rattle.records.proofs.Tree.{long-enough, content-length, rest-length, content-bytes, rest-bytes, kind-small, length-small, record-split, parse-step, parse-nil, Canonical, CanonicalAll}
 use Rattle.records.proofs.Step.{ofBytes, ofBytes-true, content-leaf, next-done, next-more, Next-sound, read-stepped, read-leftOver}
 
 -- how deep records lie: the outermost is 1 deep
@@ -71,7 +71,7 @@ is-first limit depth m p s h l st sh inner = go (isLeaf (kindOf s)) refl
 
     go : (b : Bool) → isLeaf (kindOf s) ≡ b → Is limit depth p s (cond b (leaf (kindOf s) (contentOf s)) (node (kindOf s) (parse m (contentOf s))))
     go true e = record {
-      encoded = sym (split s l h);
+      encoded = sym (record-split s l h);
       fits = (st, ofBytes-true (contentAt p (kindOf s)) (content-leaf p (kindOf s) st ∙ e));
       canonical = (e, kind-small s h, bounded);
       shallow = omega arith;
@@ -79,7 +79,7 @@ is-first limit depth m p s h l st sh inner = go (isLeaf (kindOf s)) refl
     go false e =
         let i = inner (content-leaf p (kindOf s) st ∙ e) in
         record {
-          encoded = rw (i .encoded) (sym (split s l h));
+          encoded = rw (i .encoded) (sym (record-split s l h));
           fits = (st, i .fits);
           canonical = (e, kind-small s h, rw (i .encoded) bounded, i .canonical);
           shallow = let j = i .shallow in omega arith;

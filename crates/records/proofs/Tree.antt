@@ -126,8 +126,8 @@ module _ (s : Bytes) (long : short s ≡ false) where
       ap (λ (t : Bytes). contentOf s ++ t) (sym d) ∙ take-append-drop (lengthOf s - 2) (drop 6 s)
 
   -- the bytes are those of the record at their front, and the rest
-  pub split : AreBytes s → s ≡ recordBytes (kindOf s) (contentOf s) ++ restOf s
-  split h =
+  pub record-split : AreBytes s → s ≡ recordBytes (kindOf s) (contentOf s) ++ restOf s
+  record-split h =
       let e = long-enough s long in
       let c = content-length in
       let d = length-drop 4 s in

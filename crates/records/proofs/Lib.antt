@@ -3,3 +3,4 @@ pub mod Tree
 pub mod Step
 pub mod Sound
 pub mod FitsRead
+pub mod Fuel

@@ -10,7 +10,7 @@ use Rattle.answers.specs.declared.Verdict.{Verdict}
 use Rattle.answers.specs.declared.Verdict.the-variants.{Refused}
 use Rattle.wire.specs.Numbers.{Bytes}
 use Rattle.records.specs.Record.{lengthOf, kindOf, contentOf, restOf}
-use Rattle.records.specs.Kinds.{Place, stands, Content, contentAt}
+use Rattle.records.specs.Kinds.{stands, Content, contentAt}
 use Rattle.records.specs.Reading.{Next, done, leftOver, record-at, next, short, andThen, step, read}
 use Rattle.records.proofs.Tree.{rest-length}
 

@@ -24,7 +24,7 @@ fits-done (these (p ∷ ps)) f = absurd f
 fits-done (any p) f = refl
 fits-done (atMostOne p) f = refl
 
--- where records fit, the first comes next, and the others fit what follows it
+-- a record comes next in a content, at a place that it fits, and the others fit what follows it
 pub record Comes (c : Content) (s : Bytes) (r : Record) (d : Records) : Type 0 where
   pub place : Place
   pub more : Content
@@ -32,6 +32,7 @@ pub record Comes (c : Content) (s : Bytes) (r : Record) (d : Records) : Type 0 w
   pub fits : Fits r place
   pub others : FitsAll d more
 
+-- where records fit, the first comes next and the others follow it
 pub fits-next : (c : Content) (s : Bytes) (r : Record) (d : Records) → 0 < length s → FitsAll (r ▸ d) c → Comes c s r d
 unfolding FitsAll
 fits-next bytes s r d l f = absurd f

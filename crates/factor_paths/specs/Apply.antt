@@ -1,7 +1,7 @@
 -- PathSimplifier, applyPrefix and apply of FactorPathsOptimization (01, PathSimplifier on RASTBottomUpReplacer, applyPrefix). Assumes nothing: these are definitions.
 use mathlib.Core.Bool.{Bool, false, _&&_, cond}
-use Prim.Native.Nat.{ℕ, zero, suc, max}
-use Rattle.records.specs.Record.{Record, Records, leaf, node, nil, _▸_, _▸▸_, children, update, put}
+use Prim.Native.Nat.{ℕ, zero, suc}
+use Rattle.records.specs.Record.{Record, Records, leaf, node, nil, _▸_, _▸▸_, children, update, put, deep}
 use Rattle.rast.specs.Path.{Name, Path, MSel, selected, whether}
 use Rattle.rast.specs.Operation.{Operation}
 use Rattle.rast.specs.Mod.{ExternMod?, nameOf}
@@ -18,16 +18,6 @@ TSynonym display base = node 0x37 (display ▸ base ▸ nil)
 
 abbrev pub Identifier : Name → Record
 Identifier name = node 0x42 (leaf 0x01 name ▸ nil)
-
--- how deep a record goes: a bound for the modules in it
-unfoldable mutual
-  pub depth : Record → ℕ
-  depth (leaf k b) = 1
-  depth (node k c) = suc (depthAll c)
-
-  pub depthAll : Records → ℕ
-  depthAll nil = 0
-  depthAll (r ▸ c) = max (depth r) (depthAll c)
 
 module _ (op : Operation) where
   -- id in replacement && replacement[id] == base
@@ -72,4 +62,4 @@ module _ (op : Operation) where
       cond (ExternMod? m) m whole
 
   unfoldable pub apply : Path → Record → Record
-  apply root m = applyPrefix (depth m) m (MSel root (nameOf m))
+  apply root m = applyPrefix (deep m) m (MSel root (nameOf m))

@@ -29,6 +29,7 @@ fold-string f ft (some n) acc = refl
 module _ {T S : Type 0} (g : S → T) (f ft : T → Record → T) (ft′ : S → «Type» → S) (ht : (acc : S) (t : «Type») → ft (g acc) (Type·tree t) ≡ g (ft′ acc t)) where
   mutual
     unfolding Fold Type·Fold Type·tree
+
     pub fold-type : (t : «Type») (acc : S) → Fold f ft (g acc) (Type·tree t) ≡ g (Type·Fold ft′ t acc)
     fold-type U8 acc = ht acc U8
     fold-type U16 acc = ht acc U16
@@ -80,12 +81,13 @@ module _ {T S : Type 0} (g : S → T) (f ft : T → Record → T) (ft′ : S →
   fold-formals (Formal′ n t ∷ ps) acc = rw (fold-type t acc) (fold-formals ps _)
 
 module _ {T S : Type 0} (g : S → T) (f ft : T → Record → T) (f′ : S → Expr → S) (ft′ : S → «Type» → S)
-  (hf : (acc : S) (e : Expr) → f (g acc) (Expr·tree e) ≡ g (f′ acc e)) (ht : (acc : S) (t : «Type») → ft (g acc) (Type·tree t) ≡ g (ft′ acc t)) where
+    (hf : (acc : S) (e : Expr) → f (g acc) (Expr·tree e) ≡ g (f′ acc e)) (ht : (acc : S) (t : «Type») → ft (g acc) (Type·tree t) ≡ g (ft′ acc t)) where
   abbrev ty : (t : «Type») (acc : S) → Fold f ft (g acc) (Type·tree t) ≡ g (Type·Fold ft′ t acc)
   ty = fold-type g f ft ft′ ht
 
   mutual
     unfolding Fold Expr·Fold Expr·tree
+
     pub fold-expr : (e : Expr) (acc : S) → Fold f ft (g acc) (Expr·tree e) ≡ g (Expr·Fold f′ ft′ e acc)
     fold-expr (RawExpr b) acc = hf acc (RawExpr b)
     fold-expr (ExprFromType t) acc = rw (hf acc (ExprFromType t)) (ty t _)

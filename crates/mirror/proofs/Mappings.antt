@@ -88,8 +88,8 @@ add-tree m k p = rw (get-other (map Path·tree) k (m .provenance)) (go (Text.get
         (record { provenance = set upstream k (Path·tree p ∷ []) (trees-of (m .provenance)); keys = m .keys ++ (k ∷ []) })
         (λ paths. record { provenance = set upstream k (include upstream (Path·tree p) paths) (trees-of (m .provenance)); keys = m .keys })
         ≡ mapping (Text.whether o
-            (record { provenance = Text.set k (p ∷ []) (m .provenance); keys = m .keys ++ (k ∷ []) })
-            (λ paths. record { provenance = Text.set k (Text.include p paths) (m .provenance); keys = m .keys }))
+        (record { provenance = Text.set k (p ∷ []) (m .provenance); keys = m .keys ++ (k ∷ []) })
+        (λ paths. record { provenance = Text.set k (Text.include p paths) (m .provenance); keys = m .keys }))
     go none = with-provenance _ (set-other (map Path·tree) k (p ∷ []) (m .provenance))
     go (some ps) = with-provenance _ (rw (include-trees p ps) (set-other (map Path·tree) k (Text.include p ps) (m .provenance)))
 

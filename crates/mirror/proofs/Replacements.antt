@@ -54,9 +54,9 @@ unfolding Path·tree
 path-tree p m = ap (Rattle.rast.specs.Path.MSel (Path·tree p)) (name-tree m)
 
 module _ (op : Operation) (again : op .walksAgain ≡ true) (r : RASTBottomUpReplacer) (r′ : Text.RASTBottomUpReplacer)
-  (hm : (m : Mod) (p : Path) → r .ReplaceModSingle (Mod·tree m) (Path·tree p) ≡ Mod·tree (r′ .ReplaceModSingle m p))
-  (ht : (t : «Type») → r .ReplaceTypeSingle (Type·tree t) ≡ Type·tree (r′ .ReplaceTypeSingle t))
-  (hf : (e : Expr) → r .ReplaceExprSingle (Expr·tree e) ≡ Expr·tree (r′ .ReplaceExprSingle e)) where
+    (hm : (m : Mod) (p : Path) → r .ReplaceModSingle (Mod·tree m) (Path·tree p) ≡ Mod·tree (r′ .ReplaceModSingle m p))
+    (ht : (t : «Type») → r .ReplaceTypeSingle (Type·tree t) ≡ Type·tree (r′ .ReplaceTypeSingle t))
+    (hf : (e : Expr) → r .ReplaceExprSingle (Expr·tree e) ≡ Expr·tree (r′ .ReplaceExprSingle e)) where
   type′ : (t : «Type») → ReplaceType op r (Type·tree t) ≡ Type·tree (Text.ReplaceType r′ t)
   unfolding ReplaceType Text.ReplaceType
   type′ t = replace-type (λ e. e) (r .ReplaceTypeSingle) (r′ .ReplaceTypeSingle) ht t
@@ -98,7 +98,7 @@ module _ (op : Operation) (again : op .walksAgain ≡ true) (r : RASTBottomUpRep
   -- what ReplaceFn gives if it hands on ft and f
   handing : (ft f : Record → Record) → ft ≡ ReplaceType op r → f ≡ ReplaceExpr op r → (n : string) (ps : List TypeParamDecl) (fs : List Formal) (t : Option «Type») (e : Option Expr) →
       node 0x7D (text n ▸ ReplaceTypeParams op r (typeParams·tree ps) ▸ list (mapAll (λ formal. Replace (λ e. e) ft formal) (trees Formal·tree fs))
-          ▸ Map (λ t. Replace (λ e. e) ft t) (option Type·tree t) ▸ Map (λ e. Replace f ft e) (option Expr·tree e) ▸ nil)
+      ▸ Map (λ t. Replace (λ e. e) ft t) (option Type·tree t) ▸ Map (λ e. Replace f ft e) (option Expr·tree e) ▸ nil)
       ≡ Fn·tree (Text.ReplaceFn r′ (Fn′ n ps fs t e))
   unfolding Text.ReplaceFn Fn·tree
   handing ft f et ef n ps fs t e = rw (et, ef, typeParams′ ps, formals′ fs, result′ t, fnBody′ e)

@@ -26,6 +26,7 @@ replace-string f ft (some n) = refl
 module _ (f ft : Record → Record) (ft′ : «Type» → «Type») (ht : (t : «Type») → ft (Type·tree t) ≡ Type·tree (ft′ t)) where
   mutual
     unfolding Replace Type·Replace Type·tree
+
     pub replace-type : (t : «Type») → Replace f ft (Type·tree t) ≡ Type·tree (Type·Replace ft′ t)
     replace-type U8 = ht U8
     replace-type U16 = ht U16
@@ -86,6 +87,7 @@ module _ (f ft : Record → Record) (f′ : Expr → Expr) (ft′ : «Type» →
 
   mutual
     unfolding Replace Expr·Replace Expr·tree
+
     pub replace-expr : (e : Expr) → Replace f ft (Expr·tree e) ≡ Expr·tree (Expr·Replace f′ ft′ e)
     replace-expr (RawExpr b) = hf (RawExpr b)
     replace-expr (ExprFromType t) = rw (ty t) (hf (ExprFromType _))

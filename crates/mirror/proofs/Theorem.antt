@@ -1,11 +1,11 @@
 -- The depth that falls never runs out, and so: what the definitions make of the record tree of a module tree is the record tree of what the text makes of it. Assumes nothing.
 use mathlib.Core.Path.{_≡_, refl, ap, ap₂, sym, _∙_}
 use Prim.Native.Nat.{ℕ, zero, suc, _≤_, max}
-use native.Mathlib.Nat.{le-trans, le-refl}
+use native.Mathlib.Nat.{le-refl}
 use native.Mathlib.Omega.{arith}
-use Rattle.records.specs.Record.{Record, Records, leaf, node, nil, _▸_}
+use Rattle.records.specs.Record.{deep, deepAll}
 use Rattle.rast.specs.Operation.{upstream}
-use Rattle.factor_paths.specs.Apply.{depth, depthAll, applyPrefix, apply}
+use Rattle.factor_paths.specs.Apply.{applyPrefix, apply}
 use Rattle.mirror.specs.Rast.{string, Path, Mod, Mod′, ExternMod, ModDecl, ModDecl′, StructDecl, TypeDecl, ConstDecl, EnumDecl, ImplDecl, TraitDecl, TopFnDecl′, UseDecl, ModDecls, []ᵐ, _∷ᵐ_}
 use Rattle.mirror.specs.Fold.{FoldModDecls, Mod·Fold}
 use Rattle.mirror.specs.Visitor.{MSel, Mod·name}
@@ -56,3 +56,33 @@ enough (suc n) (suc k) (Mod′ d a name ds) p le le′ =
     ap (withImports _) (mod-agree (Text.applyPrefix n) (Text.applyPrefix k) _ (nestingAll ds) (λ m q h. enough n k m q (omega arith) (omega arith)) (Mod′ d a name ds) (omega arith) p)
 enough (suc n) (suc k) (ExternMod name) p le le′ = refl
 
+-- a record tree is at least as deep as the modules in it are nested
+mutual
+  unfolding nesting deep Mod·tree
+
+  mod-deep : (m : Mod) → nesting m ≤ deep (Mod·tree m)
+  mod-deep (Mod′ d a n ds) = let h : nestingAll ds ≤ deepAll (ModDecls·trees ds) = decls-deep ds in omega arith
+  mod-deep (ExternMod n) = omega arith
+
+  decl-deep : (d : ModDecl) → nestingDecl d ≤ deep (ModDecl·tree d)
+  decl-deep (ModDecl′ m) = let h : nesting m ≤ deep (Mod·tree m) = mod-deep m in omega arith
+  decl-deep (StructDecl s) = omega arith
+  decl-deep (TypeDecl t) = omega arith
+  decl-deep (ConstDecl c) = omega arith
+  decl-deep (EnumDecl e) = omega arith
+  decl-deep (ImplDecl i) = omega arith
+  decl-deep (TraitDecl t) = omega arith
+  decl-deep (TopFnDecl′ f) = omega arith
+  decl-deep (UseDecl u) = omega arith
+
+  decls-deep : (ds : ModDecls) → nestingAll ds ≤ deepAll (ModDecls·trees ds)
+  decls-deep []ᵐ = omega arith
+  decls-deep (d ∷ᵐ ds) = let h : nestingDecl d ≤ deep (ModDecl·tree d) = decl-deep d in let k : nestingAll ds ≤ deepAll (ModDecls·trees ds) = decls-deep ds in omega arith
+
+-- THE THEOREM: what the definitions make of the record tree of m, under the record tree of a root, is the record tree of apply(root)(m)
+pub apply-tree : (root : Path) (m : Mod) → apply upstream (Path·tree root) (Mod·tree m) ≡ Mod·tree (Text.apply root m)
+unfolding apply Text.apply
+apply-tree root m =
+    ap (applyPrefix upstream (deep (Mod·tree m)) (Mod·tree m)) (path-tree root m)
+    ∙ apply-prefix (deep (Mod·tree m)) m (MSel root (Mod·name m))
+    ∙ ap Mod·tree (enough (deep (Mod·tree m)) (nesting m) m (MSel root (Mod·name m)) (mod-deep m) (le-refl _))

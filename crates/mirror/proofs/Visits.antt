@@ -33,10 +33,10 @@ module _ {T S : Type 0} (g : S → T) (step : T → Record → T) (step′ : S �
   fold-types-seq (t ∷ᵗ ts) acc = ap (λ a. FoldLeft step a (Types·trees ts)) (h acc t) ∙ fold-types-seq ts _
 
 module _ {T S : Type 0} (g : S → T) (v : RASTTopDownVisitor T) (v′ : TextVisitor.RASTTopDownVisitor S)
-  (ht : (acc : S) (t : «Type») → v .VisitTypeSingle (g acc) (Type·tree t) ≡ g (v′ .VisitTypeSingle acc t))
-  (hf : (acc : S) (e : Expr) → v .VisitExprSingle (g acc) (Expr·tree e) ≡ g (v′ .VisitExprSingle acc e))
-  (hd : (acc : S) (d : ModDecl) (p : Path) → v .VisitModDeclSingle (g acc) (ModDecl·tree d) (Path·tree p) ≡ g (v′ .VisitModDeclSingle acc d p))
-  (flat : v′ .recurseSubmodules ≡ false) where
+    (ht : (acc : S) (t : «Type») → v .VisitTypeSingle (g acc) (Type·tree t) ≡ g (v′ .VisitTypeSingle acc t))
+    (hf : (acc : S) (e : Expr) → v .VisitExprSingle (g acc) (Expr·tree e) ≡ g (v′ .VisitExprSingle acc e))
+    (hd : (acc : S) (d : ModDecl) (p : Path) → v .VisitModDeclSingle (g acc) (ModDecl·tree d) (Path·tree p) ≡ g (v′ .VisitModDeclSingle acc d p))
+    (flat : v′ .recurseSubmodules ≡ false) where
   ty : (t : «Type») (acc : S) → Fold (λ acc e. acc) (v .VisitTypeSingle) (g acc) (Type·tree t) ≡ g (Text.Type·Fold (v′ .VisitTypeSingle) t acc)
   ty = fold-type g (λ acc e. acc) (v .VisitTypeSingle) (v′ .VisitTypeSingle) ht
 

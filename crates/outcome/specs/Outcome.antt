@@ -9,13 +9,13 @@ use Rattle.answers.specs.declared.Answer.the-variants.{Shortened, ShortWork, Lo
 use Rattle.answers.specs.declared.Verdict.{Verdict}
 use Rattle.answers.specs.declared.Verdict.the-variants.{Sound, Refused}
 use Rattle.wire.specs.Numbers.{Bytes}
-use Rattle.records.specs.Record.{encode, tree}
+use Rattle.records.specs.Record.{encode, tree, deep}
 use Rattle.records.specs.Kinds.{path}
 use Rattle.records.specs.Reading.{reading}
 use Rattle.rast.specs.Path.{MSel, whether}
 use Rattle.rast.specs.Operation.{Operation}
 use Rattle.rast.specs.Mod.{nameOf}
-use Rattle.factor_paths.specs.Apply.{depth, apply}
+use Rattle.factor_paths.specs.Apply.{apply}
 use Rattle.outcome.specs.FullTable.{fullTable}
 
 -- an answer, and what the out buffer and the work words hold after it
@@ -51,7 +51,7 @@ module _ (op : Operation) (card root out : Bytes) (work : List ℕ) where
   -- 8, and then 9
   abbrev pub shortened : Outcome
   shortened =
-      whether (fullTable op (op .mostPairs (length work)) (depth (tree card)) (tree card) (MSel (tree root) (nameOf (tree card))) 0)
+      whether (fullTable op (op .mostPairs (length work)) (deep (tree card)) (tree card) (MSel (tree root) (nameOf (tree card))) 0)
       written (λ place. lateRefusal (FullTable place))
 
   -- 4 to 7, and then 8

@@ -7,13 +7,13 @@ use native.Mathlib.Omega.{arith}
 use lib.ListN.{length, length-append}
 use Rattle.answers.specs.declared.Verdict.the-variants.{Sound}
 use Rattle.wire.specs.Numbers.{Bytes}
-use Rattle.records.specs.Record.{Record, Records, leaf, node, nil, _▸_, recordBytes, encode, encodeAll, lengthOf, tree}
+use Rattle.records.specs.Record.{Record, Records, leaf, node, nil, _▸_, recordBytes, encode, encodeAll, lengthOf, tree, deep, deepAll}
 use Rattle.records.specs.Kinds.{Place, stands, Content, bytes, these, any, atMostOne, contentAt}
 use Rattle.records.specs.Reading.{done, record-at, next, read, reading}
 use Rattle.records.proofs.Fits.{Fits, FitsAll}
 use Rattle.records.proofs.Tree.{record-length, front-kind, front-content, front-rest, front-short, Canonical, CanonicalAll, tree-encode}
 use Rattle.records.proofs.Step.{read-bytes, read-done, Next-sound, stepped-read}
-use Rattle.records.proofs.Sound.{deep, deepAll, ReadsAs}
+use Rattle.records.proofs.Sound.{ReadsAs}
 
 -- where no records fit, nothing comes next in no bytes
 pub fits-done : (c : Content) → FitsAll nil c → next c [] ≡ done

@@ -7,22 +7,12 @@ use native.Mathlib.Omega.{arith}
 use lib.ListN.{length}
 use Rattle.answers.specs.declared.Verdict.the-variants.{Sound}
 use Rattle.wire.specs.Numbers.{Bytes, AreBytes}
-use Rattle.records.specs.Record.{Record, Records, leaf, node, nil, _▸_, isLeaf, encode, encodeAll, lengthOf, kindOf, contentOf, restOf, parse, nth, tree}
+use Rattle.records.specs.Record.{Record, Records, leaf, node, nil, _▸_, isLeaf, encode, encodeAll, lengthOf, kindOf, contentOf, restOf, parse, nth, tree, deep, deepAll}
 use Rattle.records.specs.Kinds.{Place, stands, Content, bytes, these, any, atMostOne, contentAt}
 use Rattle.records.specs.Reading.{Next, done, leftOver, record-at, next, short, read, reading}
 use Rattle.records.proofs.Fits.{Fits, FitsAll}
 use Rattle.records.proofs.Tree.{long-enough, content-length, rest-length, content-bytes, rest-bytes, kind-small, length-small, record-split, parse-step, parse-nil, Canonical, CanonicalAll}
 use Rattle.records.proofs.Step.{ofBytes, ofBytes-true, content-leaf, next-done, next-more, Next-sound, read-stepped, read-leftOver}
-
--- how deep records lie: the outermost is 1 deep
-unfoldable mutual
-  pub deep : Record → ℕ
-  deep (leaf k b) = 1
-  deep (node k c) = suc (deepAll c)
-
-  pub deepAll : Records → ℕ
-  deepAll nil = 0
-  deepAll (r ▸ c) = max (deep r) (deepAll c)
 
 -- no records fit where nothing comes next
 pub done-fits : (c : Content) (s : Bytes) → ofBytes c ≡ false → next c s ≡ done → FitsAll nil c

@@ -1,7 +1,7 @@
 -- 01, Leaf 1: records, their tree and their bytes. Assumes nothing: these are definitions.
 use mathlib.Core.List.{[], _∷_, _++_}
 use mathlib.Core.Bool.{Bool, _||_, cond}
-use Prim.Native.Nat.{ℕ, zero, suc, _+_, _-_}
+use Prim.Native.Nat.{ℕ, zero, suc, _+_, _-_, max}
 use lib.ListN.{length, take, drop}
 use lib.Dec.{eqb}
 use Rattle.wire.specs.Numbers.{Bytes, le, num}
@@ -19,6 +19,16 @@ mutual
 infixr 50 _▸_
 abbrev pub isLeaf : ℕ → Bool
 isLeaf k = eqb k 0x01 || eqb k 0x03
+
+-- how deep records lie: the outermost is 1 deep
+unfoldable mutual
+  pub deep : Record → ℕ
+  deep (leaf k b) = 1
+  deep (node k c) = suc (deepAll c)
+
+  pub deepAll : Records → ℕ
+  deepAll nil = 0
+  deepAll (r ▸ c) = max (deep r) (deepAll c)
 
 -- a length that counts the bytes after itself, a kind, and content
 abbrev pub recordBytes : ℕ → Bytes → Bytes

@@ -1,3 +1,4 @@
 pub mod Mapping
 pub mod PathsVisitor
 pub mod Apply
+pub mod Walk

@@ -12,7 +12,8 @@ use Rattle.rast.specs.Path.{Name, Path, MSel}
 use Rattle.rast.specs.Operation.{Operation, nested}
 use Rattle.rast.specs.Mod.{nameOf}
 use Rattle.factor_paths.specs.Mapping.{equal}
-use Rattle.factor_paths.specs.Apply.{TIdentifier, TSynonym, Identifier, apply}
+use Rattle.factor_paths.specs.Apply.{Identifier, apply}
+use Rattle.factor_paths.specs.Walk.{synonyms}
 use Rattle.outcome.specs.Outcome.{shorten}
 use Rattle.points.specs.LookUp.{pathOf, bare, barePath, unmarkedAll, namesBorne, lookUp, collected, own, different}
 
@@ -34,11 +35,6 @@ putAside this that = update 3 (λ body. put (skip (putAhead this that) (children
 unfoldable pub UseDecls : Records → Type 0
 UseDecls nil = Unit {0}
 UseDecls (d ▸ uses) = (kind d ≡ 0x6A) × (kind (pathOf d) ≡ 0x13) × UseDecls uses
-
--- n synonyms, base in base, each displaying TIdentifier of the name, down to a record
-unfoldable pub synonyms : Name → ℕ → Record → Record
-synonyms name zero this = this
-synonyms name (suc n) this = TSynonym (TIdentifier name) (synonyms name n this)
 
 -- where TypeFromPath became TSynonym or ExprFromPath became Identifier, at a Mod, and elsewhere
 pub data Meeting : Type 0 where

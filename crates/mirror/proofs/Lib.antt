@@ -1,0 +1,4 @@
+pub mod Decode
+pub mod Run
+pub mod Rows
+pub mod Paths

@@ -4,14 +4,34 @@ use mathlib.Core.Bool.{cond}
 use mathlib.Core.Option.{Option, none, some}
 use Prim.Native.Nat.{ℕ, zero, suc}
 use lib.Dec.{eqb}
+use Rattle.wire.specs.Numbers.{Bytes}
 use Rattle.records.specs.Record.{Record, Records, leaf, node, nil, _▸_, kind, text, children}
-use Rattle.mirror.specs.Rast.{string, Path, Global, Crate, Self, PMemberSelect}
+use Rattle.mirror.specs.Rast.{Path, Global, Crate, Self, PMemberSelect, «Type», U8, U16, U32, U64, U128, I8, I16, I32, I64, I128, USIZE, Bool, TIdentifier, TypeFromPath, TypeApp, Borrowed, BorrowedMut, ImplType, DynType, TupleType, FnType, IntersectionType, Array, TSynonym, TMetaData, Types, []ᵗ, _∷ᵗ_, Formal, Formal′}
 
 -- records, each read
 module _ {K : Type 0} (kid : Record → K) where
   abbrev pub each : Records → List K
   each nil = []
   each (r ▸ c) = kid r ∷ each c
+
+-- a record and what was read of it
+pub record Kid (D : Type 0) : Type 0 where
+  pub own : Record
+  pub as′ : D
+
+-- a reading of every record, from its kind and the readings of the records that it holds
+module _ {D : Type 0} (reading : ℕ → List (Kid D) → D) where
+  unfoldable mutual
+    pub fold : Record → D
+    fold (leaf k b) = reading k []
+    fold (node k c) = reading k (foldAll c)
+
+    pub foldAll : Records → List (Kid D)
+    foldAll nil = []
+    foldAll (r ▸ c) = record { own = r; as′ = fold r } ∷ foldAll c
+
+  abbrev pub kid : Record → Kid D
+  kid r = record { own = r; as′ = fold r }
 
 -- what was read of the record at place i
 module _ {K : Type 0} (other : K) where
@@ -62,24 +82,71 @@ abbrev pub absent : Record
 absent = leaf 0x01 []
 
 -- Path
-pub record Path·Kid : Type 0 where
-  pub own : Record
-  pub path : Path
+abbrev pub Path·absent : Kid Path
+Path·absent = record { own = absent; as′ = Global }
 
-abbrev pub Path·absent : Path·Kid
-Path·absent = record { own = absent; path = Global }
+unfoldable pub Path·at : ℕ → List (Kid Path) → Path
+Path·at k xs =
+    let string : ℕ → Bytes = λ i. text (nth Path·absent i xs .own) in
+    let path : ℕ → Path = λ i. nth Path·absent i xs .as′ in
+    choose k Global (
+    (0x11, Crate)
+    ∷ (0x12, Self)
+    ∷ (0x13, PMemberSelect (path 0) (string 1))
+    ∷ [])
 
-unfoldable pub Path·at : ℕ → List Path·Kid → Path
-Path·at k xs = choose k Global ((0x11, Crate) ∷ (0x12, Self) ∷ (0x13, PMemberSelect (nth Path·absent 0 xs .path) (text (nth Path·absent 1 xs .own))) ∷ [])
+abbrev pub Path·of : Record → Path
+Path·of r = fold Path·at r
 
-unfoldable mutual
-  pub Path·of : Record → Path
-  Path·of (leaf k b) = Global
-  Path·of (node k c) = Path·at k (Path·kids c)
+-- Type, seq<Type>
+pub record Type·Reading : Type 0 where
+  pub type : «Type»
+  pub types : Types
 
-  pub Path·kids : Records → List Path·Kid
-  Path·kids nil = []
-  Path·kids (r ▸ c) = record { own = r; path = Path·of r } ∷ Path·kids c
+abbrev pub Type·absent : Kid Type·Reading
+Type·absent = record { own = absent; as′ = record { type = U8; types = []ᵗ } }
 
-abbrev pub Path·kid : Record → Path·Kid
-Path·kid r = record { own = r; path = Path·of r }
+unfoldable pub Type·at : ℕ → List (Kid Type·Reading) → «Type»
+Type·at k xs =
+    let x : ℕ → Record = λ i. nth Type·absent i xs .own in
+    let string : ℕ → Bytes = λ i. text (x i) in
+    let type : ℕ → «Type» = λ i. nth Type·absent i xs .as′ .type in
+    let types : ℕ → Types = λ i. nth Type·absent i xs .as′ .types in
+    choose k U8 (
+    (0x21, U16)
+    ∷ (0x22, U32)
+    ∷ (0x23, U64)
+    ∷ (0x24, U128)
+    ∷ (0x25, I8)
+    ∷ (0x26, I16)
+    ∷ (0x27, I32)
+    ∷ (0x28, I64)
+    ∷ (0x29, I128)
+    ∷ (0x2A, USIZE)
+    ∷ (0x2B, Bool)
+    ∷ (0x2C, TIdentifier (string 0))
+    ∷ (0x2D, TypeFromPath (Path·of (x 0)))
+    ∷ (0x2E, TypeApp (type 0) (types 1))
+    ∷ (0x2F, Borrowed (type 0))
+    ∷ (0x30, BorrowedMut (type 0))
+    ∷ (0x31, ImplType (type 0))
+    ∷ (0x32, DynType (type 0))
+    ∷ (0x33, TupleType (types 0))
+    ∷ (0x34, FnType (types 0) (type 1))
+    ∷ (0x35, IntersectionType (type 0) (type 1))
+    ∷ (0x36, Array (type 0) (option·of text (x 1)))
+    ∷ (0x37, TSynonym (type 0) (type 1))
+    ∷ (0x38, TMetaData (type 0) (string 1) (string 2))
+    ∷ [])
+
+abbrev pub Types·from : List (Kid Type·Reading) → Types
+Types·from xs = gather []ᵗ _∷ᵗ_ (λ x. x .as′ .type) xs
+
+abbrev pub Type·reading : ℕ → List (Kid Type·Reading) → Type·Reading
+Type·reading k xs = record { type = Type·at k xs; types = Types·from xs }
+
+abbrev pub Type·of : Record → «Type»
+Type·of r = fold Type·reading r .type
+
+abbrev pub Types·of : Record → Types
+Types·of r = fold Type·reading r .types

@@ -2,3 +2,4 @@ pub mod Decode
 pub mod Run
 pub mod Rows
 pub mod Paths
+pub mod Types

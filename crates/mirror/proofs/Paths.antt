@@ -8,36 +8,30 @@ use Rattle.records.specs.Kinds.{path, rowOf}
 use Rattle.records.proofs.Fits.{Fits}
 use Rattle.mirror.specs.Rast.{Path, Global, Crate, Self, PMemberSelect}
 use Rattle.mirror.specs.Tree.{Path·tree}
-use Rattle.mirror.proofs.Decode.{each, Path·Kid, Path·absent, Path·kid, Path·at, Path·of, Path·kids}
+use Rattle.mirror.proofs.Decode.{fold, foldAll, Path·absent, Path·at, Path·of}
 use Rattle.mirror.proofs.Run.{_⨾_}
-use Rattle.mirror.proofs.Rows.{Layer, Law, Codec, GoodAll, kids-are, row, all-good, sure, kinds-right, name·codec, distinct, reached}
+use Rattle.mirror.proofs.Rows.{Layer, Law, Codec, GoodAll, folded, layer, row, all-good, sure, kinds-right, name·codec, distinct, reached}
 
 pub Path·back : (p : Path) → Path·of (Path·tree p) ≡ p
-unfolding Path·of Path·kids Path·at Path·tree
+unfolding fold foldAll Path·at Path·tree
 Path·back Global = refl
 Path·back Crate = refl
 Path·back Self = refl
 Path·back (PMemberSelect base name) = λ i. PMemberSelect (Path·back base i) name
 
-abbrev pub Path·layer : Layer
-Path·layer = record { Kid = Path·Kid; other = Path·absent; kid = Path·kid; itself = λ x. x .own; itself-is = λ r. refl; Good = λ r. Fits r path → Path·tree (Path·of r) ≡ r }
+abbrev pub P : Layer
+P = layer Path·at Path·absent (λ r. Fits r path → Path·tree (Path·of r) ≡ r)
 
-abbrev aPath : Law Path·layer
-aPath = record { place = path; again = λ x. Path·tree (x .path); right = λ r g. g }
+abbrev aPath : Law P
+aPath = record { place = path; again = λ x. Path·tree (x .as′); right = λ r g. g }
 
-Path·of-is : (k : ℕ) (c : Records) → Path·of (node k c) ≡ Path·at k (each Path·kid c)
-unfolding Path·of Path·kids
-Path·of-is k c = ap (Path·at k) (kids-are Path·kid Path·kids refl (λ r c. refl) c)
-
-pub Path·step : (r : Record) → GoodAll Path·layer (children r) → Fits r path → Path·tree (Path·of r) ≡ r
-unfolding Path·tree Path·at rowOf
+pub Path·step : (r : Record) → GoodAll P (children r) → Fits r path → Path·tree (Path·of r) ≡ r
+unfolding fold foldAll Path·tree Path·at rowOf
 Path·step =
-    kinds-right Path·layer Path·tree Path·at 0x10 3 (lit≤ tt)
-    (row Path·layer [] ⨾ row Path·layer [] ⨾ row Path·layer [] ⨾ row Path·layer (aPath ∷ sure Path·layer name·codec ∷ []))
-    Path·of Path·of-is
+    kinds-right P Path·tree Path·at 0x10 3 (lit≤ tt) (row P [] ⨾ row P [] ⨾ row P [] ⨾ row P (aPath ∷ sure P name·codec ∷ [])) Path·of (λ k c. ap (Path·at k) (folded Path·at c))
 
 abbrev pub Path·codec : Codec Path
-Path·codec = record { place = path; tree = Path·tree; of = Path·of; back = Path·back; right = all-good Path·layer Path·step }
+Path·codec = record { place = path; tree = Path·tree; of = Path·of; back = Path·back; right = all-good P Path·step }
 
 pub Path·unique : (p q : Path) → Path·tree p ≡ Path·tree q → p ≡ q
 Path·unique = distinct Path·codec

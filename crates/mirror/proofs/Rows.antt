@@ -13,7 +13,7 @@ use Rattle.records.specs.Kinds.{Place, kinds, seq, option, name, one, stands, C
 use Rattle.records.proofs.Fits.{Fits, FitsAll}
 use Rattle.mirror.specs.Tree.{list, trees}
 use Rattle.mirror.specs.Tree
-use Rattle.mirror.proofs.Decode.{each, first, rest, gather, atMost, own, held, absent, seq·of, option·of}
+use Rattle.mirror.proofs.Decode.{each, Kid, fold, foldAll, kid, first, rest, gather, atMost, own, held, absent, seq·of, option·of}
 use Rattle.mirror.proofs.Run.{Run, in-run, both}
 
 -- one way of reading the records that a record holds, and what is known of them
@@ -39,10 +39,15 @@ pub record Codec (A : Type 0) : Type 0 where
   pub back : (a : A) → of (tree a) ≡ a
   pub right : (r : Record) → Fits r place → tree (of r) ≡ r
 
--- a list of readings that is made record by record
-pub kids-are : {K : Type 0} (kid : Record → K) (kids : Records → List K) → kids nil ≡ [] → ((r : Record) (c : Records) → kids (r ▸ c) ≡ kid r ∷ kids c) → (c : Records) → kids c ≡ each kid c
-kids-are kid kids e h nil = e
-kids-are {K} kid kids e h (r ▸ c) = h r c ∙ ap (λ (xs : List K). kid r ∷ xs) (kids-are kid kids e h c)
+-- the layer of a fold
+module _ {D : Type 0} (reading : ℕ → List (Kid D) → D) where
+  pub folded : (c : Records) → foldAll reading c ≡ each (kid reading) c
+  unfolding foldAll
+  folded nil = refl
+  folded (r ▸ c) = ap (λ (xs : List (Kid D)). kid reading r ∷ xs) (folded c)
+
+  abbrev pub layer : Kid D → (Record → Type 0) → Layer
+  layer other Good = record { Kid = Kid D; other = other; kid = kid reading; itself = λ x. x .own; itself-is = λ r. refl; Good = Good }
 
 pub no-records : (c : Records) → FitsAll c bytes → ⊥
 unfolding FitsAll

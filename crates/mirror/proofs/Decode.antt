@@ -7,6 +7,10 @@ use lib.Dec.{eqb}
 use Rattle.wire.specs.Numbers.{Bytes}
 use Rattle.records.specs.Record.{Record, Records, leaf, node, nil, _▸_, kind, text, children}
 use Rattle.mirror.specs.Rast.{Path, Global, Crate, Self, PMemberSelect, «Type», U8, U16, U32, U64, U128, I8, I16, I32, I64, I128, USIZE, Bool, TIdentifier, TypeFromPath, TypeApp, Borrowed, BorrowedMut, ImplType, DynType, TupleType, FnType, IntersectionType, Array, TSynonym, TMetaData, Types, []ᵗ, _∷ᵗ_, Formal, Formal′}
+use Rattle.mirror.specs.Rast.{Expr, RawExpr, ExprFromType, Identifier, Match, StmtExpr, Block, StructBuild, Tuple, UnaryOp, BinaryOp, TypeAscription, TraitCast, LiteralInt, LiteralBool, LiteralString, DeclareVar, Assign, IfExpr, Loop, For, Labelled, Break, Continue, Return, CallType, Call, Select, SelectIndex, ExprFromPath, FunctionSelect, Lambda}
+use Rattle.mirror.specs.Rast.{Exprs, []ᵉ, _∷ᵉ_, OptExpr, None, Some, MatchCase, MatchCase′, MatchCases, []ᶜ, _∷ᶜ_, AssignIdentifier, AssignIdentifier′, AssignIdentifiers, []ᵃ, _∷ᵃ_}
+use Rattle.mirror.specs.Rast.{TypeParamDecl, TypeParamDecl′, Field, Field′, NamelessField, NamelessField′, Fields, NamedFields, NamelessFields, Struct, Struct′, TypeSynonym, TypeSynonym′, Constant, Constant′, EnumCase, EnumCase′, Enum, Enum′, Fn, Fn′, ImplMember, RawImplMember, TypeDeclMember, FnDecl, ImplMemberMacro, Impl, ImplFor, Impl′, Trait, Trait′, TopFnDecl, TopFn, Use, Use′}
+use Rattle.mirror.specs.Rast.{Mod, Mod′, ExternMod, ModDecl, ModDecl′, StructDecl, TypeDecl, ConstDecl, EnumDecl, ImplDecl, TraitDecl, TopFnDecl′, UseDecl, ModDecls, []ᵐ, _∷ᵐ_}
 
 -- records, each read
 module _ {K : Type 0} (kid : Record → K) where
@@ -77,6 +81,10 @@ module _ {A : Type 0} (of : Record → A) where
 
   abbrev pub option·of : Record → Option A
   option·of r = atMost none some of (held r)
+
+-- a datatype that does not hold itself is read from its record's kind and the records that it holds
+abbrev pub read : {A : Type 0} → (ℕ → List Record → A) → Record → A
+read at r = at (kind r) (held r)
 
 abbrev pub absent : Record
 absent = leaf 0x01 []
@@ -150,3 +158,101 @@ Type·of r = fold Type·reading r .type
 
 abbrev pub Types·of : Record → Types
 Types·of r = fold Type·reading r .types
+
+-- Formal
+unfoldable pub Formal·at : ℕ → List Record → Formal
+Formal·at k xs = Formal′ (text (nth absent 0 xs)) (Type·of (nth absent 1 xs))
+
+abbrev pub Formal·of : Record → Formal
+Formal·of = read Formal·at
+
+-- Expr, seq<Expr>, Option<Expr>, MatchCase, AssignIdentifier and their seqs
+pub record Expr·Reading : Type 0 where
+  pub expr : Expr
+  pub exprs : Exprs
+  pub opt : OptExpr
+  pub case : MatchCase
+  pub cases : MatchCases
+  pub assign : AssignIdentifier
+  pub assigns : AssignIdentifiers
+
+abbrev noExpr : Expr
+noExpr = RawExpr []
+
+abbrev pub Expr·absent : Kid Expr·Reading
+Expr·absent = record { own = absent; as′ = record { expr = noExpr; exprs = []ᵉ; opt = None; case = MatchCase′ [] noExpr; cases = []ᶜ; assign = AssignIdentifier′ [] noExpr; assigns = []ᵃ } }
+
+unfoldable pub Expr·at : ℕ → List (Kid Expr·Reading) → Expr
+Expr·at k xs =
+    let x : ℕ → Record = λ i. nth Expr·absent i xs .own in
+    let string : ℕ → Bytes = λ i. text (x i) in
+    let type : ℕ → «Type» = λ i. Type·of (x i) in
+    let expr : ℕ → Expr = λ i. nth Expr·absent i xs .as′ .expr in
+    let exprs : ℕ → Exprs = λ i. nth Expr·absent i xs .as′ .exprs in
+    let opt : ℕ → OptExpr = λ i. nth Expr·absent i xs .as′ .opt in
+    choose k noExpr (
+    (0x40, RawExpr (string 0))
+    ∷ (0x41, ExprFromType (type 0))
+    ∷ (0x42, Identifier (string 0))
+    ∷ (0x43, Match (expr 0) (nth Expr·absent 1 xs .as′ .cases))
+    ∷ (0x44, StmtExpr (expr 0) (expr 1))
+    ∷ (0x45, Block (expr 0))
+    ∷ (0x46, StructBuild (expr 0) (nth Expr·absent 1 xs .as′ .assigns))
+    ∷ (0x47, Tuple (exprs 0))
+    ∷ (0x48, UnaryOp (string 0) (expr 1) (string 2))
+    ∷ (0x49, BinaryOp (string 0) (expr 1) (expr 2) (string 3))
+    ∷ (0x4A, TypeAscription (expr 0) (type 1))
+    ∷ (0x4B, TraitCast (type 0) (type 1))
+    ∷ (0x4C, LiteralInt (string 0))
+    ∷ (0x4D, LiteralBool (string 0))
+    ∷ (0x4E, LiteralString (string 0) (string 1) (string 2))
+    ∷ (0x4F, DeclareVar (string 0) (string 1) (option·of Type·of (x 2)) (opt 3))
+    ∷ (0x50, Assign (string 0) (expr 1))
+    ∷ (0x51, IfExpr (expr 0) (expr 1) (expr 2))
+    ∷ (0x52, Loop (opt 0) (expr 1))
+    ∷ (0x53, For (string 0) (expr 1) (expr 2))
+    ∷ (0x54, Labelled (string 0) (expr 1))
+    ∷ (0x55, Break (option·of text (x 0)))
+    ∷ (0x56, Continue (option·of text (x 0)))
+    ∷ (0x57, Return (opt 0))
+    ∷ (0x58, CallType (expr 0) (Types·of (x 1)))
+    ∷ (0x59, Call (expr 0) (exprs 1))
+    ∷ (0x5A, Select (expr 0) (string 1))
+    ∷ (0x5B, SelectIndex (expr 0) (expr 1))
+    ∷ (0x5C, ExprFromPath (Path·of (x 0)))
+    ∷ (0x5D, FunctionSelect (expr 0) (string 1))
+    ∷ (0x5E, Lambda (seq·of Formal·of (x 0)) (option·of Type·of (x 1)) (expr 2))
+    ∷ [])
+
+abbrev pub MatchCase·at : ℕ → List (Kid Expr·Reading) → MatchCase
+MatchCase·at k xs = MatchCase′ (text (nth Expr·absent 0 xs .own)) (nth Expr·absent 1 xs .as′ .expr)
+
+abbrev pub AssignIdentifier·at : ℕ → List (Kid Expr·Reading) → AssignIdentifier
+AssignIdentifier·at k xs = AssignIdentifier′ (text (nth Expr·absent 0 xs .own)) (nth Expr·absent 1 xs .as′ .expr)
+
+abbrev pub Exprs·from : List (Kid Expr·Reading) → Exprs
+Exprs·from xs = gather []ᵉ _∷ᵉ_ (λ x. x .as′ .expr) xs
+
+abbrev pub OptExpr·from : List (Kid Expr·Reading) → OptExpr
+OptExpr·from xs = atMost None Some (λ x. x .as′ .expr) xs
+
+abbrev pub MatchCases·from : List (Kid Expr·Reading) → MatchCases
+MatchCases·from xs = gather []ᶜ _∷ᶜ_ (λ x. x .as′ .case) xs
+
+abbrev pub AssignIdentifiers·from : List (Kid Expr·Reading) → AssignIdentifiers
+AssignIdentifiers·from xs = gather []ᵃ _∷ᵃ_ (λ x. x .as′ .assign) xs
+
+abbrev pub Expr·reading : ℕ → List (Kid Expr·Reading) → Expr·Reading
+Expr·reading k xs =
+    record {
+      expr = Expr·at k xs;
+      exprs = Exprs·from xs;
+      opt = OptExpr·from xs;
+      case = MatchCase·at k xs;
+      cases = MatchCases·from xs;
+      assign = AssignIdentifier·at k xs;
+      assigns = AssignIdentifiers·from xs;
+    }
+
+abbrev pub Expr·of : Record → Expr
+Expr·of r = fold Expr·reading r .expr

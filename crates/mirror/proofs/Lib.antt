@@ -3,3 +3,4 @@ pub mod Run
 pub mod Rows
 pub mod Paths
 pub mod Types
+pub mod Exprs

@@ -5,7 +5,7 @@ use mathlib.Core.Option.{Option, none, some}
 use mathlib.Core.Bool.{Bool, true, false, cond, _||_}
 use Prim.Native.Nat.{ℕ, suc, _+_, _≤_}
 use native.Mathlib.Omega.{arith}
-use lib.Dec.{leb, eqb}
+use lib.Dec.{T, leb, eqb, lit≤}
 use borrow.Author.Tests.{leb-true, eqb-true}
 use Rattle.wire.specs.Numbers.{Bytes}
 use Rattle.records.specs.Record.{Record, Records, leaf, node, nil, _▸_, isLeaf, kind, text, children}
@@ -13,7 +13,7 @@ use Rattle.records.specs.Kinds.{Place, kinds, seq, option, name, one, stands, C
 use Rattle.records.proofs.Fits.{Fits, FitsAll}
 use Rattle.mirror.specs.Tree.{list, trees}
 use Rattle.mirror.specs.Tree
-use Rattle.mirror.proofs.Decode.{each, Kid, fold, foldAll, kid, first, rest, gather, atMost, own, held, absent, seq·of, option·of}
+use Rattle.mirror.proofs.Decode.{each, Kid, fold, foldAll, kid, first, rest, gather, atMost, own, held, read, absent, seq·of, option·of}
 use Rattle.mirror.proofs.Run.{Run, in-run, both}
 
 -- one way of reading the records that a record holds, and what is known of them
@@ -177,6 +177,14 @@ plain = record { Kid = Record; other = absent; kid = own; itself = own; itself-i
 
 pub plainly : (c : Records) → GoodAll plain c
 plainly c = all-good-all plain (λ r g. tt) c
+
+-- a datatype that does not hold itself
+module _ {A : Type 0} (tree : A → Record) (at : ℕ → List Record → A) where
+  pub plain-right : (from n : ℕ) → 4 ≤ from → Run (Case plain tree at) from n → (r : Record) → Fits r (kinds from (from + n)) → tree (read at r) ≡ r
+  plain-right from n low cases r f = kinds-right plain tree at from n low cases (read at) (λ k c. refl) r (plainly (children r)) f
+
+  abbrev pub plain·codec : (from n : ℕ) → T (leb 4 from) → ((a : A) → read at (tree a) ≡ a) → Run (Case plain tree at) from n → Codec A
+  plain·codec from n low back cases = record { place = kinds from (from + n); tree = tree; of = read at; back = back; right = plain-right from n (lit≤ low) cases }
 
 -- the seq and the Option of a datatype
 module _ {A : Type 0} (C : Codec A) where

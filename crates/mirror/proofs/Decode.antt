@@ -82,12 +82,16 @@ module _ {A : Type 0} (of : Record → A) where
   abbrev pub option·of : Record → Option A
   option·of r = atMost none some of (held r)
 
--- a datatype that does not hold itself is read from its record's kind and the records that it holds
-abbrev pub read : {A : Type 0} → (ℕ → List Record → A) → Record → A
-read at r = at (kind r) (held r)
-
 abbrev pub absent : Record
 absent = leaf 0x01 []
+
+-- a datatype that does not hold itself is read from its record's kind and the records that it holds
+module _ {A : Type 0} (at : ℕ → (ℕ → Record) → A) where
+  abbrev pub from : ℕ → List Record → A
+  from k xs = at k (λ i. nth absent i xs)
+
+  abbrev pub read : Record → A
+  read r = from (kind r) (held r)
 
 -- Path
 abbrev pub Path·absent : Kid Path
@@ -160,8 +164,8 @@ abbrev pub Types·of : Record → Types
 Types·of r = fold Type·reading r .types
 
 -- Formal
-unfoldable pub Formal·at : ℕ → List Record → Formal
-Formal·at k xs = Formal′ (text (nth absent 0 xs)) (Type·of (nth absent 1 xs))
+unfoldable pub Formal·at : ℕ → (ℕ → Record) → Formal
+Formal·at k x = Formal′ (text (x 0)) (Type·of (x 1))
 
 abbrev pub Formal·of : Record → Formal
 Formal·of = read Formal·at
@@ -256,3 +260,21 @@ Expr·reading k xs =
 
 abbrev pub Expr·of : Record → Expr
 Expr·of r = fold Expr·reading r .expr
+
+abbrev pub Exprs·of : Record → Exprs
+Exprs·of r = fold Expr·reading r .exprs
+
+abbrev pub OptExpr·of : Record → OptExpr
+OptExpr·of r = fold Expr·reading r .opt
+
+abbrev pub MatchCase·of : Record → MatchCase
+MatchCase·of r = fold Expr·reading r .case
+
+abbrev pub MatchCases·of : Record → MatchCases
+MatchCases·of r = fold Expr·reading r .cases
+
+abbrev pub AssignIdentifier·of : Record → AssignIdentifier
+AssignIdentifier·of r = fold Expr·reading r .assign
+
+abbrev pub AssignIdentifiers·of : Record → AssignIdentifiers
+AssignIdentifiers·of r = fold Expr·reading r .assigns

@@ -1,5 +1,5 @@
 -- Formal, and Expr with what holds it: their record trees are read back, and every record tree that stands at their places is one. Assumes nothing.
-use mathlib.Core.Path.{_≡_, refl, ap}
+use mathlib.Core.Path.{_≡_, refl}
 use mathlib.Core.List.{List, [], _∷_}
 use Prim.Native.Nat.{ℕ}
 use lib.Dec.{lit≤}
@@ -10,9 +10,9 @@ use Rattle.mirror.specs.Rast.{Formal, Formal′}
 use Rattle.mirror.specs.Rast.{Expr, RawExpr, ExprFromType, Identifier, Match, StmtExpr, Block, StructBuild, Tuple, UnaryOp, BinaryOp, TypeAscription, TraitCast, LiteralInt, LiteralBool, LiteralString, DeclareVar, Assign, IfExpr, Loop, For, Labelled, Break, Continue, Return, CallType, Call, Select, SelectIndex, ExprFromPath, FunctionSelect, Lambda}
 use Rattle.mirror.specs.Rast.{Exprs, []ᵉ, _∷ᵉ_, OptExpr, None, Some, MatchCase, MatchCase′, MatchCases, []ᶜ, _∷ᶜ_, AssignIdentifier, AssignIdentifier′, AssignIdentifiers, []ᵃ, _∷ᵃ_}
 use Rattle.mirror.specs.Tree.{list, Formal·tree, Expr·tree, Exprs·trees, OptExpr·tree, MatchCase·tree, MatchCases·trees, AssignIdentifier·tree, AssignIdentifiers·trees}
-use Rattle.mirror.proofs.Decode.{read, fold, foldAll, gather, atMost, Formal·at, Expr·absent, Expr·at, MatchCase·at, AssignIdentifier·at, Expr·reading, Expr·of, Exprs·from, OptExpr·from, MatchCases·from, AssignIdentifiers·from}
+use Rattle.mirror.proofs.Decode.{read, fold, foldAll, Formal·at, Expr·absent, Expr·at, MatchCase·at, AssignIdentifier·at, Expr·reading, Expr·of, Exprs·of, OptExpr·of, MatchCase·of, MatchCases·of, AssignIdentifier·of, AssignIdentifiers·of, Exprs·from, OptExpr·from, MatchCases·from, AssignIdentifiers·from}
 use Rattle.mirror.proofs.Run.{Run, _⨾_}
-use Rattle.mirror.proofs.Rows.{Layer, Law, Codec, GoodAll, Case, folded, layer, plain, plain·codec, row, all-good, sure, kinds-right, seq-right, option-right, text·codec, kept·codec, option·codec, option·back, seq·codec, seq·back}
+use Rattle.mirror.proofs.Rows.{Layer, Law, Codec, GoodAll, Case, refold, layer, plain, Plain, plain·codec, row, all-good, sure, kinds-right, seq-right, option-right, text·codec, kept·codec, option·codec, option·back, seq·codec, seq·back}
 use Rattle.mirror.proofs.Paths.{Path·back, Path·codec}
 use Rattle.mirror.proofs.Types.{Type·back, Types·back, Type·codec, Types·codec}
 
@@ -20,7 +20,7 @@ pub Formal·back : (f : Formal) → read Formal·at (Formal·tree f) ≡ f
 unfolding Formal·at Formal·tree
 Formal·back (Formal′ name tpe) = λ i. Formal′ name (Type·back tpe i)
 
-pub Formal·cases : Run (Case plain Formal·tree Formal·at) 0x7E 0
+pub Formal·cases : Plain Formal·tree Formal·at 0x7E 0
 unfolding Formal·at Formal·tree rowOf
 Formal·cases = row plain (sure plain text·codec ∷ sure plain Type·codec ∷ [])
 
@@ -63,37 +63,37 @@ mutual
   Expr·back (FunctionSelect obj name) = λ i. FunctionSelect (Expr·back obj i) name
   Expr·back (Lambda params retType body) = λ i. Lambda (seq·back Formal·codec params i) (option·back Type·codec retType i) (Expr·back body i)
 
-  pub Exprs·back : (es : Exprs) → fold Expr·reading (list (Exprs·trees es)) .exprs ≡ es
+  pub Exprs·back : (es : Exprs) → Exprs·of (list (Exprs·trees es)) ≡ es
   Exprs·back []ᵉ = refl
   Exprs·back (e ∷ᵉ es) = λ i. Expr·back e i ∷ᵉ Exprs·back es i
 
-  pub OptExpr·back : (o : OptExpr) → fold Expr·reading (OptExpr·tree o) .opt ≡ o
+  pub OptExpr·back : (o : OptExpr) → OptExpr·of (OptExpr·tree o) ≡ o
   OptExpr·back None = refl
   OptExpr·back (Some e) = λ i. Some (Expr·back e i)
 
-  pub MatchCase·back : (c : MatchCase) → fold Expr·reading (MatchCase·tree c) .case ≡ c
+  pub MatchCase·back : (c : MatchCase) → MatchCase·of (MatchCase·tree c) ≡ c
   MatchCase·back (MatchCase′ pattern rhs) = λ i. MatchCase′ pattern (Expr·back rhs i)
 
-  pub MatchCases·back : (cs : MatchCases) → fold Expr·reading (list (MatchCases·trees cs)) .cases ≡ cs
+  pub MatchCases·back : (cs : MatchCases) → MatchCases·of (list (MatchCases·trees cs)) ≡ cs
   MatchCases·back []ᶜ = refl
   MatchCases·back (c ∷ᶜ cs) = λ i. MatchCase·back c i ∷ᶜ MatchCases·back cs i
 
-  pub AssignIdentifier·back : (a : AssignIdentifier) → fold Expr·reading (AssignIdentifier·tree a) .assign ≡ a
+  pub AssignIdentifier·back : (a : AssignIdentifier) → AssignIdentifier·of (AssignIdentifier·tree a) ≡ a
   AssignIdentifier·back (AssignIdentifier′ identifier rhs) = λ i. AssignIdentifier′ identifier (Expr·back rhs i)
 
-  pub AssignIdentifiers·back : (as′ : AssignIdentifiers) → fold Expr·reading (list (AssignIdentifiers·trees as′)) .assigns ≡ as′
+  pub AssignIdentifiers·back : (as′ : AssignIdentifiers) → AssignIdentifiers·of (list (AssignIdentifiers·trees as′)) ≡ as′
   AssignIdentifiers·back []ᵃ = refl
   AssignIdentifiers·back (a ∷ᵃ as′) = λ i. AssignIdentifier·back a i ∷ᵃ AssignIdentifiers·back as′ i
 
 -- what is shown of every record
 pub record Good (r : Record) : Type 0 where
-  pub expr′ : Fits r expr → Expr·tree (fold Expr·reading r .expr) ≡ r
-  pub exprs : Fits r (seq expr) → list (Exprs·trees (fold Expr·reading r .exprs)) ≡ r
-  pub opt : Fits r (option expr) → OptExpr·tree (fold Expr·reading r .opt) ≡ r
-  pub case : Fits r (one 0x81) → MatchCase·tree (fold Expr·reading r .case) ≡ r
-  pub cases : Fits r (seq (one 0x81)) → list (MatchCases·trees (fold Expr·reading r .cases)) ≡ r
-  pub assign : Fits r (one 0x82) → AssignIdentifier·tree (fold Expr·reading r .assign) ≡ r
-  pub assigns : Fits r (seq (one 0x82)) → list (AssignIdentifiers·trees (fold Expr·reading r .assigns)) ≡ r
+  pub expr′ : Fits r expr → Expr·tree (Expr·of r) ≡ r
+  pub exprs : Fits r (seq expr) → list (Exprs·trees (Exprs·of r)) ≡ r
+  pub opt : Fits r (option expr) → OptExpr·tree (OptExpr·of r) ≡ r
+  pub case : Fits r (one 0x81) → MatchCase·tree (MatchCase·of r) ≡ r
+  pub cases : Fits r (seq (one 0x81)) → list (MatchCases·trees (MatchCases·of r)) ≡ r
+  pub assign : Fits r (one 0x82) → AssignIdentifier·tree (AssignIdentifier·of r) ≡ r
+  pub assigns : Fits r (seq (one 0x82)) → list (AssignIdentifiers·trees (AssignIdentifiers·of r)) ≡ r
 
 abbrev pub E : Layer
 E = layer Expr·reading Expr·absent Good
@@ -190,13 +190,13 @@ step : (r : Record) → GoodAll E (children r) → Good r
 unfolding fold foldAll Exprs·trees OptExpr·tree MatchCases·trees AssignIdentifiers·trees
 step r g =
     record {
-      expr′ = kinds-right E Expr·tree Expr·at 0x40 30 (lit≤ tt) Expr·cases Expr·of (λ k c. ap (Expr·at k) (folded Expr·reading c)) r g;
-      exprs = seq-right E anExpr (λ x. x .as′ .expr) []ᵉ _∷ᵉ_ Exprs·trees refl (λ x s. refl) (λ r. fold Expr·reading r .exprs) (λ k c. ap Exprs·from (folded Expr·reading c)) r g;
-      opt = option-right E anExpr (λ x. x .as′ .expr) None Some OptExpr·tree refl (λ x. refl) (λ r. fold Expr·reading r .opt) (λ k c. ap OptExpr·from (folded Expr·reading c)) r g;
-      case = kinds-right E MatchCase·tree MatchCase·at 0x81 0 (lit≤ tt) MatchCase·cases (λ r. fold Expr·reading r .case) (λ k c. ap (MatchCase·at k) (folded Expr·reading c)) r g;
-      cases = seq-right E aCase (λ x. x .as′ .case) []ᶜ _∷ᶜ_ MatchCases·trees refl (λ x s. refl) (λ r. fold Expr·reading r .cases) (λ k c. ap MatchCases·from (folded Expr·reading c)) r g;
-      assign = kinds-right E AssignIdentifier·tree AssignIdentifier·at 0x82 0 (lit≤ tt) AssignIdentifier·cases (λ r. fold Expr·reading r .assign) (λ k c. ap (AssignIdentifier·at k) (folded Expr·reading c)) r g;
-      assigns = seq-right E anAssign (λ x. x .as′ .assign) []ᵃ _∷ᵃ_ AssignIdentifiers·trees refl (λ x s. refl) (λ r. fold Expr·reading r .assigns) (λ k c. ap AssignIdentifiers·from (folded Expr·reading c)) r g;
+      expr′ = kinds-right E Expr·tree Expr·at 0x40 30 (lit≤ tt) Expr·cases Expr·of (refold Expr·reading Expr·at) r g;
+      exprs = seq-right E anExpr (λ x. x .as′ .expr) []ᵉ _∷ᵉ_ Exprs·trees refl (λ x s. refl) Exprs·of (refold Expr·reading (λ k. Exprs·from)) r g;
+      opt = option-right E anExpr (λ x. x .as′ .expr) None Some OptExpr·tree refl (λ x. refl) OptExpr·of (refold Expr·reading (λ k. OptExpr·from)) r g;
+      case = kinds-right E MatchCase·tree MatchCase·at 0x81 0 (lit≤ tt) MatchCase·cases MatchCase·of (refold Expr·reading MatchCase·at) r g;
+      cases = seq-right E aCase (λ x. x .as′ .case) []ᶜ _∷ᶜ_ MatchCases·trees refl (λ x s. refl) MatchCases·of (refold Expr·reading (λ k. MatchCases·from)) r g;
+      assign = kinds-right E AssignIdentifier·tree AssignIdentifier·at 0x82 0 (lit≤ tt) AssignIdentifier·cases AssignIdentifier·of (refold Expr·reading AssignIdentifier·at) r g;
+      assigns = seq-right E anAssign (λ x. x .as′ .assign) []ᵃ _∷ᵃ_ AssignIdentifiers·trees refl (λ x s. refl) AssignIdentifiers·of (refold Expr·reading (λ k. AssignIdentifiers·from)) r g;
     }
 
 pub good : (r : Record) → Good r

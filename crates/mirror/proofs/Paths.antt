@@ -1,5 +1,5 @@
 -- Path: its record trees are read back, and every record tree that stands at a path's place is one. Assumes nothing.
-use mathlib.Core.Path.{_≡_, refl, ap}
+use mathlib.Core.Path.{_≡_, refl}
 use mathlib.Core.List.{List, [], _∷_}
 use Prim.Native.Nat.{ℕ}
 use lib.Dec.{lit≤}
@@ -10,7 +10,7 @@ use Rattle.mirror.specs.Rast.{Path, Global, Crate, Self, PMemberSelect}
 use Rattle.mirror.specs.Tree.{Path·tree}
 use Rattle.mirror.proofs.Decode.{fold, foldAll, Path·absent, Path·at, Path·of}
 use Rattle.mirror.proofs.Run.{_⨾_}
-use Rattle.mirror.proofs.Rows.{Layer, Law, Codec, GoodAll, folded, layer, row, all-good, sure, kinds-right, name·codec, distinct, reached}
+use Rattle.mirror.proofs.Rows.{Layer, Law, Codec, GoodAll, refold, layer, row, all-good, sure, kinds-right, name·codec, distinct, reached}
 
 pub Path·back : (p : Path) → Path·of (Path·tree p) ≡ p
 unfolding fold foldAll Path·at Path·tree
@@ -28,7 +28,7 @@ aPath = record { place = path; again = λ x. Path·tree (x .as′); right = λ r
 pub Path·step : (r : Record) → GoodAll P (children r) → Fits r path → Path·tree (Path·of r) ≡ r
 unfolding fold foldAll Path·tree Path·at rowOf
 Path·step =
-    kinds-right P Path·tree Path·at 0x10 3 (lit≤ tt) (row P [] ⨾ row P [] ⨾ row P [] ⨾ row P (aPath ∷ sure P name·codec ∷ [])) Path·of (λ k c. ap (Path·at k) (folded Path·at c))
+    kinds-right P Path·tree Path·at 0x10 3 (lit≤ tt) (row P [] ⨾ row P [] ⨾ row P [] ⨾ row P (aPath ∷ sure P name·codec ∷ [])) Path·of (refold Path·at Path·at)
 
 abbrev pub Path·codec : Codec Path
 Path·codec = record { place = path; tree = Path·tree; of = Path·of; back = Path·back; right = all-good P Path·step }

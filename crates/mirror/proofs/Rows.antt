@@ -13,7 +13,7 @@ use Rattle.records.specs.Kinds.{Place, kinds, seq, option, name, one, stands, C
 use Rattle.records.proofs.Fits.{Fits, FitsAll}
 use Rattle.mirror.specs.Tree.{list, trees}
 use Rattle.mirror.specs.Tree
-use Rattle.mirror.proofs.Decode.{each, Kid, fold, foldAll, kid, first, rest, gather, atMost, own, held, read, absent, seq·of, option·of}
+use Rattle.mirror.proofs.Decode.{each, Kid, fold, foldAll, kid, first, rest, gather, atMost, own, held, from, read, absent, seq·of, option·of}
 use Rattle.mirror.proofs.Run.{Run, in-run, both}
 
 -- one way of reading the records that a record holds, and what is known of them
@@ -45,6 +45,9 @@ module _ {D : Type 0} (reading : ℕ → List (Kid D) → D) where
   unfolding foldAll
   folded nil = refl
   folded (r ▸ c) = ap (λ (xs : List (Kid D)). kid reading r ∷ xs) (folded c)
+
+  pub refold : {A : Type 0} (at : ℕ → List (Kid D) → A) (k : ℕ) (c : Records) → at k (foldAll reading c) ≡ at k (each (kid reading) c)
+  refold at k c = ap (at k) (folded c)
 
   abbrev pub layer : Kid D → (Record → Type 0) → Layer
   layer other Good = record { Kid = Kid D; other = other; kid = kid reading; itself = λ x. x .own; itself-is = λ r. refl; Good = Good }
@@ -179,12 +182,15 @@ pub plainly : (c : Records) → GoodAll plain c
 plainly c = all-good-all plain (λ r g. tt) c
 
 -- a datatype that does not hold itself
-module _ {A : Type 0} (tree : A → Record) (at : ℕ → List Record → A) where
-  pub plain-right : (from n : ℕ) → 4 ≤ from → Run (Case plain tree at) from n → (r : Record) → Fits r (kinds from (from + n)) → tree (read at r) ≡ r
-  plain-right from n low cases r f = kinds-right plain tree at from n low cases (read at) (λ k c. refl) r (plainly (children r)) f
+module _ {A : Type 0} (tree : A → Record) (at : ℕ → (ℕ → Record) → A) where
+  abbrev pub Plain : ℕ → ℕ → Type 0
+  Plain = Run (Case plain tree (from at))
 
-  abbrev pub plain·codec : (from n : ℕ) → T (leb 4 from) → ((a : A) → read at (tree a) ≡ a) → Run (Case plain tree at) from n → Codec A
-  plain·codec from n low back cases = record { place = kinds from (from + n); tree = tree; of = read at; back = back; right = plain-right from n (lit≤ low) cases }
+  pub plain-right : (low n : ℕ) → 4 ≤ low → Plain low n → (r : Record) → Fits r (kinds low (low + n)) → tree (read at r) ≡ r
+  plain-right low n h cases r f = kinds-right plain tree (from at) low n h cases (read at) (λ k c. refl) r (plainly (children r)) f
+
+  abbrev pub plain·codec : (low n : ℕ) → T (leb 4 low) → ((a : A) → read at (tree a) ≡ a) → Plain low n → Codec A
+  plain·codec low n h back cases = record { place = kinds low (low + n); tree = tree; of = read at; back = back; right = plain-right low n (lit≤ h) cases }
 
 -- the seq and the Option of a datatype
 module _ {A : Type 0} (C : Codec A) where

@@ -1,5 +1,5 @@
 -- Type and seq<Type>: their record trees are read back, and every record tree that stands at their places is one. Assumes nothing.
-use mathlib.Core.Path.{_≡_, refl, ap}
+use mathlib.Core.Path.{_≡_, refl}
 use mathlib.Core.List.{List, [], _∷_}
 use Prim.Native.Nat.{ℕ}
 use lib.Dec.{lit≤}
@@ -10,7 +10,7 @@ use Rattle.mirror.specs.Rast.{«Type», U8, U16, U32, U64, U128, I8, I16
 use Rattle.mirror.specs.Tree.{Type·tree, Types·trees, list}
 use Rattle.mirror.proofs.Decode.{fold, foldAll, Type·absent, Type·at, Types·from, Type·reading, Type·of, Types·of}
 use Rattle.mirror.proofs.Run.{_⨾_}
-use Rattle.mirror.proofs.Rows.{Layer, Law, Codec, GoodAll, folded, layer, row, all-good, sure, kinds-right, seq-right, text·codec, kept·codec, option·codec, option·back}
+use Rattle.mirror.proofs.Rows.{Layer, Law, Codec, GoodAll, refold, layer, row, all-good, sure, kinds-right, seq-right, text·codec, kept·codec, option·codec, option·back}
 use Rattle.mirror.proofs.Paths.{Path·back, Path·codec}
 
 mutual
@@ -95,11 +95,11 @@ Type·step =
     ⨾ row T (aType ∷ sure T (option·codec text·codec) ∷ [])
     ⨾ row T (aType ∷ aType ∷ [])
     ⨾ row T (aType ∷ aKept ∷ aKept ∷ []))
-    Type·of (λ k c. ap (Type·at k) (folded Type·reading c))
+    Type·of (refold Type·reading Type·at)
 
 Types·step : (r : Record) → GoodAll T (children r) → Fits r (seq type) → list (Types·trees (Types·of r)) ≡ r
 unfolding fold foldAll Types·trees
-Types·step = seq-right T aType (λ x. x .as′ .type) []ᵗ _∷ᵗ_ Types·trees refl (λ x s. refl) Types·of (λ k c. ap Types·from (folded Type·reading c))
+Types·step = seq-right T aType (λ x. x .as′ .type) []ᵗ _∷ᵗ_ Types·trees refl (λ x s. refl) Types·of (refold Type·reading (λ k. Types·from))
 
 pub good : (r : Record) → Good r
 good = all-good T (λ r g. record { type′ = Type·step r g; types = Types·step r g })

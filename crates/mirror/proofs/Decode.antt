@@ -278,3 +278,105 @@ AssignIdentifier·of r = fold Expr·reading r .assign
 
 abbrev pub AssignIdentifiers·of : Record → AssignIdentifiers
 AssignIdentifiers·of r = fold Expr·reading r .assigns
+
+-- the declarations that a module holds
+unfoldable pub TypeParamDecl·at : ℕ → (ℕ → Record) → TypeParamDecl
+TypeParamDecl·at k x = TypeParamDecl′ (text (x 0)) (Types·of (x 1))
+
+abbrev pub TypeParamDecl·of : Record → TypeParamDecl
+TypeParamDecl·of = read TypeParamDecl·at
+
+unfoldable pub Field·at : ℕ → (ℕ → Record) → Field
+Field·at k x = Field′ (text (x 0)) (Formal·of (x 1))
+
+abbrev pub Field·of : Record → Field
+Field·of = read Field·at
+
+unfoldable pub NamelessField·at : ℕ → (ℕ → Record) → NamelessField
+NamelessField·at k x = NamelessField′ (text (x 0)) (Type·of (x 1))
+
+abbrev pub NamelessField·of : Record → NamelessField
+NamelessField·of = read NamelessField·at
+
+unfoldable pub Fields·at : ℕ → (ℕ → Record) → Fields
+Fields·at k x =
+    choose k (NamedFields (seq·of Field·of (x 0))) (
+    (0x76, NamelessFields (seq·of NamelessField·of (x 0)))
+    ∷ [])
+
+abbrev pub Fields·of : Record → Fields
+Fields·of = read Fields·at
+
+unfoldable pub Struct·at : ℕ → (ℕ → Record) → Struct
+Struct·at k x = Struct′ (text (x 0)) (text (x 1)) (text (x 2)) (seq·of TypeParamDecl·of (x 3)) (Fields·of (x 4))
+
+abbrev pub Struct·of : Record → Struct
+Struct·of = read Struct·at
+
+unfoldable pub TypeSynonym·at : ℕ → (ℕ → Record) → TypeSynonym
+TypeSynonym·at k x = TypeSynonym′ (text (x 0)) (text (x 1)) (text (x 2)) (seq·of TypeParamDecl·of (x 3)) (Type·of (x 4))
+
+abbrev pub TypeSynonym·of : Record → TypeSynonym
+TypeSynonym·of = read TypeSynonym·at
+
+unfoldable pub Constant·at : ℕ → (ℕ → Record) → Constant
+Constant·at k x = Constant′ (text (x 0)) (text (x 1)) (text (x 2)) (Type·of (x 3)) (Expr·of (x 4))
+
+abbrev pub Constant·of : Record → Constant
+Constant·of = read Constant·at
+
+unfoldable pub EnumCase·at : ℕ → (ℕ → Record) → EnumCase
+EnumCase·at k x = EnumCase′ (text (x 0)) (text (x 1)) (Fields·of (x 2))
+
+abbrev pub EnumCase·of : Record → EnumCase
+EnumCase·of = read EnumCase·at
+
+unfoldable pub Enum·at : ℕ → (ℕ → Record) → Enum
+Enum·at k x = Enum′ (text (x 0)) (text (x 1)) (text (x 2)) (seq·of TypeParamDecl·of (x 3)) (seq·of EnumCase·of (x 4))
+
+abbrev pub Enum·of : Record → Enum
+Enum·of = read Enum·at
+
+unfoldable pub Fn·at : ℕ → (ℕ → Record) → Fn
+Fn·at k x = Fn′ (text (x 0)) (seq·of TypeParamDecl·of (x 1)) (seq·of Formal·of (x 2)) (option·of Type·of (x 3)) (option·of Expr·of (x 4))
+
+abbrev pub Fn·of : Record → Fn
+Fn·of = read Fn·at
+
+unfoldable pub ImplMember·at : ℕ → (ℕ → Record) → ImplMember
+ImplMember·at k x =
+    choose k (RawImplMember (text (x 0))) (
+    (0x84, FnDecl (text (x 0)) (text (x 1)) (text (x 2)) (Fn·of (x 3)))
+    ∷ (0x85, TypeDeclMember (text (x 0)) (Type·of (x 1)))
+    ∷ (0x86, ImplMemberMacro (Expr·of (x 0)))
+    ∷ [])
+
+abbrev pub ImplMember·of : Record → ImplMember
+ImplMember·of = read ImplMember·at
+
+unfoldable pub Impl·at : ℕ → (ℕ → Record) → Impl
+Impl·at k x =
+    choose k (ImplFor (seq·of TypeParamDecl·of (x 0)) (Type·of (x 1)) (Type·of (x 2)) (seq·of ImplMember·of (x 3))) (
+    (0x7A, Impl′ (seq·of TypeParamDecl·of (x 0)) (Type·of (x 1)) (seq·of ImplMember·of (x 2)))
+    ∷ [])
+
+abbrev pub Impl·of : Record → Impl
+Impl·of = read Impl·at
+
+unfoldable pub Trait·at : ℕ → (ℕ → Record) → Trait
+Trait·at k x = Trait′ (text (x 0)) (text (x 1)) (seq·of TypeParamDecl·of (x 2)) (Type·of (x 3)) (Types·of (x 4)) (seq·of ImplMember·of (x 5))
+
+abbrev pub Trait·of : Record → Trait
+Trait·of = read Trait·at
+
+unfoldable pub TopFnDecl·at : ℕ → (ℕ → Record) → TopFnDecl
+TopFnDecl·at k x = TopFn (text (x 0)) (text (x 1)) (text (x 2)) (Fn·of (x 3))
+
+abbrev pub TopFnDecl·of : Record → TopFnDecl
+TopFnDecl·of = read TopFnDecl·at
+
+unfoldable pub Use·at : ℕ → (ℕ → Record) → Use
+Use·at k x = Use′ (text (x 0)) (Path·of (x 1))
+
+abbrev pub Use·of : Record → Use
+Use·of = read Use·at

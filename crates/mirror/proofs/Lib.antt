@@ -4,3 +4,4 @@ pub mod Rows
 pub mod Paths
 pub mod Types
 pub mod Exprs
+pub mod Decls

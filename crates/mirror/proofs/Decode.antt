@@ -380,3 +380,46 @@ Use·at k x = Use′ (text (x 0)) (Path·of (x 1))
 
 abbrev pub Use·of : Record → Use
 Use·of = read Use·at
+
+-- Mod, ModDecl, seq<ModDecl>
+pub record Mod·Reading : Type 0 where
+  pub mod′ : Mod
+  pub decl : ModDecl
+  pub decls : ModDecls
+
+abbrev pub Mod·absent : Kid Mod·Reading
+Mod·absent = record { own = absent; as′ = record { mod′ = ExternMod []; decl = ModDecl′ (ExternMod []); decls = []ᵐ } }
+
+unfoldable pub Mod·at : ℕ → List (Kid Mod·Reading) → Mod
+Mod·at k xs =
+    let string : ℕ → Bytes = λ i. text (nth Mod·absent i xs .own) in
+    choose k (ExternMod (string 0)) ((0x60, Mod′ (string 0) (string 1) (string 2) (nth Mod·absent 3 xs .as′ .decls)) ∷ [])
+
+unfoldable pub ModDecl·at : ℕ → List (Kid Mod·Reading) → ModDecl
+ModDecl·at k xs =
+    let x : Record = nth Mod·absent 0 xs .own in
+    choose k (ModDecl′ (nth Mod·absent 0 xs .as′ .mod′)) (
+    (0x63, StructDecl (Struct·of x))
+    ∷ (0x64, TypeDecl (TypeSynonym·of x))
+    ∷ (0x65, ConstDecl (Constant·of x))
+    ∷ (0x66, EnumDecl (Enum·of x))
+    ∷ (0x67, ImplDecl (Impl·of x))
+    ∷ (0x68, TraitDecl (Trait·of x))
+    ∷ (0x69, TopFnDecl′ (TopFnDecl·of x))
+    ∷ (0x6A, UseDecl (Use·of x))
+    ∷ [])
+
+abbrev pub ModDecls·from : List (Kid Mod·Reading) → ModDecls
+ModDecls·from xs = gather []ᵐ _∷ᵐ_ (λ x. x .as′ .decl) xs
+
+abbrev pub Mod·reading : ℕ → List (Kid Mod·Reading) → Mod·Reading
+Mod·reading k xs = record { mod′ = Mod·at k xs; decl = ModDecl·at k xs; decls = ModDecls·from xs }
+
+abbrev pub Mod·of : Record → Mod
+Mod·of r = fold Mod·reading r .mod′
+
+abbrev pub ModDecl·of : Record → ModDecl
+ModDecl·of r = fold Mod·reading r .decl
+
+abbrev pub ModDecls·of : Record → ModDecls
+ModDecls·of r = fold Mod·reading r .decls

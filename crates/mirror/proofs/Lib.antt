@@ -5,3 +5,4 @@ pub mod Paths
 pub mod Types
 pub mod Exprs
 pub mod Decls
+pub mod Mods

@@ -12,7 +12,7 @@ use Rattle.mirror.specs.Rast.{Exprs, []ᵉ, _∷ᵉ_, OptExpr, None, Som
 use Rattle.mirror.specs.Rast.{TypeParamDecl, TypeParamDecl′, Field, Field′, NamelessField, NamelessField′, Fields, NamedFields, NamelessFields, Struct, Struct′, TypeSynonym, TypeSynonym′, Constant, Constant′, EnumCase, EnumCase′, Enum, Enum′, Fn, Fn′, ImplMember, RawImplMember, TypeDeclMember, FnDecl, ImplMemberMacro, Impl, ImplFor, Impl′, Trait, Trait′, TopFnDecl, TopFn, Use, Use′}
 use Rattle.mirror.specs.Rast.{Mod, Mod′, ExternMod, ModDecl, ModDecl′, StructDecl, TypeDecl, ConstDecl, EnumDecl, ImplDecl, TraitDecl, TopFnDecl′, UseDecl, ModDecls, []ᵐ, _∷ᵐ_}
 
--- records, each read
+-- every one of some records, read
 module _ {K : Type 0} (kid : Record → K) where
   abbrev pub each : Records → List K
   each nil = []
@@ -37,7 +37,7 @@ module _ {D : Type 0} (reading : ℕ → List (Kid D) → D) where
   abbrev pub kid : Record → Kid D
   kid r = record { own = r; as′ = fold r }
 
--- what was read of the record at place i
+-- what was read of the record at place i, or other where there is none
 module _ {K : Type 0} (other : K) where
   abbrev pub first : List K → K
   first [] = other
@@ -52,7 +52,7 @@ module _ {K : Type 0} (other : K) where
   nth zero xs = first other xs
   nth (suc i) xs = nth i (rest xs)
 
--- what stands beside k, or else the first
+-- what stands beside k in the list, or a where k does not stand in it
 module _ {A : Type 0} where
   abbrev pub choose : ℕ → A → List (ℕ × A) → A
   choose k a [] = a

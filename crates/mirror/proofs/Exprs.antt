@@ -1,9 +1,8 @@
 -- Formal, and Expr with what holds it: their record trees are read back, and every record tree that stands at their places is one. Assumes nothing.
 use mathlib.Core.Path.{_≡_, refl}
-use mathlib.Core.List.{List, [], _∷_}
-use Prim.Native.Nat.{ℕ}
+use mathlib.Core.List.{[], _∷_}
 use lib.Dec.{lit≤}
-use Rattle.records.specs.Record.{Record, Records, node, nil, _▸_, children}
+use Rattle.records.specs.Record.{Record, children}
 use Rattle.records.specs.Kinds.{one, seq, option, expr, rowOf}
 use Rattle.records.proofs.Fits.{Fits}
 use Rattle.mirror.specs.Rast.{Formal, Formal′}

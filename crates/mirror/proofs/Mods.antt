@@ -85,15 +85,11 @@ step r g =
 pub good : (r : Record) → Good r
 good = all-good M step
 
--- reading undoes writing, and writing undoes reading wherever a module stands
-pub read-back : (m : Mod) → Mod·of (Mod·tree m) ≡ m
-read-back = Mod·back
-
-pub written-back : (r : Record) → Fits r mod′ → Mod·tree (Mod·of r) ≡ r
-written-back r = good r .aMod
+pub Mod·right : (r : Record) → Fits r mod′ → Mod·tree (Mod·of r) ≡ r
+Mod·right r = good r .aMod
 
 abbrev pub Mod·codec : Codec Mod
-Mod·codec = record { place = mod′; tree = Mod·tree; of = Mod·of; back = Mod·back; right = written-back }
+Mod·codec = record { place = mod′; tree = Mod·tree; of = Mod·of; back = Mod·back; right = Mod·right }
 
 -- two modules of one tree are one module
 pub unique : (m m′ : Mod) → Mod·tree m ≡ Mod·tree m′ → m ≡ m′

@@ -1,9 +1,8 @@
 -- Path: its record trees are read back, and every record tree that stands at a path's place is one. Assumes nothing.
 use mathlib.Core.Path.{_≡_, refl}
-use mathlib.Core.List.{List, [], _∷_}
-use Prim.Native.Nat.{ℕ}
+use mathlib.Core.List.{[], _∷_}
 use lib.Dec.{lit≤}
-use Rattle.records.specs.Record.{Record, Records, node, nil, _▸_, children}
+use Rattle.records.specs.Record.{Record, children}
 use Rattle.records.specs.Kinds.{path, rowOf}
 use Rattle.records.proofs.Fits.{Fits}
 use Rattle.mirror.specs.Rast.{Path, Global, Crate, Self, PMemberSelect}
@@ -25,14 +24,18 @@ P = layer Path·at Path·absent (λ r. Fits r path → Path·tree (Path·of r) �
 abbrev aPath : Law P
 aPath = record { place = path; again = λ x. Path·tree (x .as′); right = λ r g. g }
 
-pub Path·step : (r : Record) → GoodAll P (children r) → Fits r path → Path·tree (Path·of r) ≡ r
+Path·step : (r : Record) → GoodAll P (children r) → Fits r path → Path·tree (Path·of r) ≡ r
 unfolding fold foldAll Path·tree Path·at rowOf
 Path·step =
     kinds-right P Path·tree Path·at 0x10 3 (lit≤ tt) (row P [] ⨾ row P [] ⨾ row P [] ⨾ row P (aPath ∷ sure P name·codec ∷ [])) Path·of (refold Path·at Path·at)
 
-abbrev pub Path·codec : Codec Path
-Path·codec = record { place = path; tree = Path·tree; of = Path·of; back = Path·back; right = all-good P Path·step }
+pub Path·right : (r : Record) → Fits r path → Path·tree (Path·of r) ≡ r
+Path·right = all-good P Path·step
 
+abbrev pub Path·codec : Codec Path
+Path·codec = record { place = path; tree = Path·tree; of = Path·of; back = Path·back; right = Path·right }
+
+-- two paths of one tree are one path, and every tree that stands at a path's place is the tree of a path
 pub Path·unique : (p q : Path) → Path·tree p ≡ Path·tree q → p ≡ q
 Path·unique = distinct Path·codec
 

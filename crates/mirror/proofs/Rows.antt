@@ -2,19 +2,19 @@
 use mathlib.Core.Path.{_≡_, refl, sym, ap, _∙_, subst}
 use mathlib.Core.List.{List, [], _∷_}
 use mathlib.Core.Option.{Option, none, some}
-use mathlib.Core.Bool.{Bool, true, false, cond, _||_}
-use Prim.Native.Nat.{ℕ, suc, _+_, _≤_}
+use mathlib.Core.Bool.{Bool, true, false, _||_}
+use Prim.Native.Nat.{ℕ, _+_, _≤_}
 use native.Mathlib.Omega.{arith}
 use lib.Dec.{T, leb, eqb, lit≤}
-use borrow.Author.Tests.{leb-true, eqb-true}
+use borrow.Author.Tests.{eqb-true}
 use Rattle.wire.specs.Numbers.{Bytes}
-use Rattle.records.specs.Record.{Record, Records, leaf, node, nil, _▸_, isLeaf, kind, text, children}
+use Rattle.records.specs.Record.{Record, Records, leaf, node, nil, _▸_, isLeaf, text, children}
 use Rattle.records.specs.Kinds.{Place, kinds, seq, option, name, one, stands, Content, bytes, these, any, atMostOne, rowOf, contentAt}
 use Rattle.records.proofs.Fits.{Fits, FitsAll}
 use Rattle.mirror.specs.Tree.{list, trees}
 use Rattle.mirror.specs.Tree
-use Rattle.mirror.proofs.Decode.{each, Kid, fold, foldAll, kid, first, rest, gather, atMost, own, held, from, read, absent, seq·of, option·of}
-use Rattle.mirror.proofs.Run.{Run, in-run, both}
+use Rattle.mirror.proofs.Decode.{each, Kid, foldAll, kid, first, rest, gather, atMost, own, from, read, absent, seq·of, option·of}
+use Rattle.mirror.proofs.Run.{Run, within, in-run}
 
 -- one way of reading the records that a record holds, and what is known of them
 pub record Layer : Type 1 where
@@ -62,11 +62,6 @@ pub leaf-right : (p : Place) (k₀ : ℕ) → ((k : ℕ) → stands p k ≡ true
 unfolding Fits
 leaf-right p k₀ same holds (leaf k b) f = ap (λ (k : ℕ). leaf k b) (sym (same k (f .0)))
 leaf-right p k₀ same holds (node k c) f = absurd (no-records c (subst (λ (x : Content). FitsAll c x) (ap (contentAt p) (same k (f .0)) ∙ holds) (f .1)))
-
-within : (from to k : ℕ) → stands (kinds from to) k ≡ true → (from ≤ k) × (k ≤ to)
-within from to k e =
-    let h = both (leb from k) (leb k to) e in
-    (leb-true from k (h .0), leb-true k to (h .1))
 
 pub one-kind : (k₀ k : ℕ) → stands (one k₀) k ≡ true → k ≡ k₀
 one-kind k₀ k e =

@@ -1,7 +1,7 @@
 -- A number that lies in a written-out run of numbers is one of them. Assumes nothing.
-use mathlib.Core.Path.{_≡_, refl, sym, subst}
+use mathlib.Core.Path.{_≡_, refl, subst}
 use mathlib.Core.Bool.{Bool, true, false, _&&_, false≢true}
-use Prim.Native.Nat.{ℕ, zero, suc, _+_, _≤_, _<_}
+use Prim.Native.Nat.{ℕ, zero, suc, _+_, _≤_}
 use native.Mathlib.Omega.{arith}
 use native.Mathlib.Decide.{decLe}
 use lib.Dec.{leb}
@@ -27,9 +27,16 @@ module _ (P : ℕ → Type 0) where
         | no here ↦ (let same : from ≡ k = omega arith in subst P same (x .0))
       ]
 
-pub both : (a b : Bool) → a && b ≡ true → (a ≡ true) × (b ≡ true)
+both : (a b : Bool) → a && b ≡ true → (a ≡ true) × (b ≡ true)
 both true b e = (refl, e)
 both false b e = absurd (false≢true e)
 
+pub within : (from to k : ℕ) → leb from k && leb k to ≡ true → (from ≤ k) × (k ≤ to)
+within from to k e =
+    let h = both (leb from k) (leb k to) e in
+    (leb-true from k (h .0), leb-true k to (h .1))
+
 pub in-run : (P : ℕ → Type 0) (from n : ℕ) → Run P from n → (k : ℕ) → leb from k && leb k (from + n) ≡ true → P k
-in-run P from n x k e = run P from n x k (leb-true from k (both (leb from k) (leb k (from + n)) e .0)) (leb-true k (from + n) (both (leb from k) (leb k (from + n)) e .1))
+in-run P from n x k e =
+    let h = within from (from + n) k e in
+    run P from n x k (h .0) (h .1)

@@ -1,9 +1,8 @@
 -- Type and seq<Type>: their record trees are read back, and every record tree that stands at their places is one. Assumes nothing.
 use mathlib.Core.Path.{_≡_, refl}
-use mathlib.Core.List.{List, [], _∷_}
-use Prim.Native.Nat.{ℕ}
+use mathlib.Core.List.{[], _∷_}
 use lib.Dec.{lit≤}
-use Rattle.records.specs.Record.{Record, Records, node, nil, _▸_, children}
+use Rattle.records.specs.Record.{Record, children}
 use Rattle.records.specs.Kinds.{seq, type, rowOf}
 use Rattle.records.proofs.Fits.{Fits}
 use Rattle.mirror.specs.Rast.{«Type», U8, U16, U32, U64, U128, I8, I16, I32, I64, I128, USIZE, Bool, TIdentifier, TypeFromPath, TypeApp, Borrowed, BorrowedMut, ImplType, DynType, TupleType, FnType, IntersectionType, Array, TSynonym, TMetaData, Types, []ᵗ, _∷ᵗ_}

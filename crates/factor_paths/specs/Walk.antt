@@ -1,4 +1,4 @@
--- One walk over a declaration that does what the replacer does with PathSimplifier: proofs/Wraps.antt proves it equal. Assumes nothing: these are definitions.
+-- One walk over a declaration that is to do what the replacer does with PathSimplifier; that it does is not proved yet. Assumes nothing: these are definitions.
 use mathlib.Core.Bool.{Bool, true, false, _&&_, _||_, cond}
 use Prim.Native.Nat.{ℕ, zero, suc}
 use lib.Dec.{eqb, leb}

@@ -5,3 +5,12 @@ pub mod Replacements
 pub mod Mappings
 pub mod Pass
 pub mod Theorem
+pub mod Decode
+pub mod Run
+pub mod Rows
+pub mod Paths
+pub mod Types
+pub mod Exprs
+pub mod Decls
+pub mod Mods
+pub mod Cards

@@ -2,7 +2,7 @@
 use mathlib.Core.Bool.{Bool, true, false, _&&_, _||_, cond}
 use Prim.Native.Nat.{ℕ, zero, suc}
 use lib.Dec.{eqb, leb}
-use Rattle.records.specs.Record.{Record, Records, leaf, node, nil, _▸_}
+use Rattle.records.specs.Record.{Record, Records, leaf, node, nil, _▸_, isLeaf}
 use Rattle.records.specs.Kinds.{stands, path, type, expr, kinds}
 use Rattle.rast.specs.Path.{Name, Path, selected, whether}
 use Rattle.rast.specs.Operation.{Operation}
@@ -14,7 +14,7 @@ unfoldable pub synonyms : Name → ℕ → Record → Record
 synonyms name zero this = this
 synonyms name (suc n) this = TSynonym (TIdentifier name) (synonyms name n this)
 
--- what the walk does at a record: paths, uses and modules are left; a Fn's formals, result and body count what is around a type; what is none of these holds others
+-- what the walk does at a record: texts, paths, uses and modules are left; a Fn's formals, result and body count what is around a type; what is none of these holds others
 pub data Step : Type 0 where
   aType anExpr aFn left holds : Step
 
@@ -23,7 +23,7 @@ stepOf k =
     cond (stands type k) aType
     (cond (stands expr k) anExpr
     (cond (eqb k 0x7D) aFn
-    (cond (stands path k || stands (kinds 0x60 0x62) k || eqb k 0x6A || eqb k 0x80) left holds)))
+    (cond (isLeaf k || stands path k || stands (kinds 0x60 0x62) k || eqb k 0x6A || eqb k 0x80) left holds)))
 
 -- one more around what a type or an expression holds, where they count
 abbrev pub deeper : Bool → ℕ → ℕ

@@ -5,7 +5,7 @@ use Rattle.records.specs.Kinds.{rowOf}
 use Rattle.mirror.specs.Rast.{TypeParamDecl, TypeParamDecl′, Field, Field′, NamelessField, NamelessField′, Fields, NamedFields, NamelessFields, Struct, Struct′, TypeSynonym, TypeSynonym′, Constant, Constant′, EnumCase, EnumCase′, Enum, Enum′, Fn, Fn′, ImplMember, RawImplMember, FnDecl, TypeDeclMember, ImplMemberMacro, Impl, ImplFor, Impl′, Trait, Trait′, TopFnDecl, TopFn, Use, Use′}
 use Rattle.mirror.specs.Tree.{TypeParamDecl·tree, Field·tree, NamelessField·tree, Fields·tree, Struct·tree, TypeSynonym·tree, Constant·tree, EnumCase·tree, Enum·tree, Fn·tree, ImplMember·tree, Impl·tree, Trait·tree, TopFnDecl·tree, Use·tree}
 use Rattle.mirror.proofs.Decode.{TypeParamDecl·at, TypeParamDecl·of, Field·at, Field·of, NamelessField·at, NamelessField·of, Fields·at, Fields·of, Struct·at, Struct·of, TypeSynonym·at, TypeSynonym·of, Constant·at, Constant·of, EnumCase·at, EnumCase·of, Enum·at, Enum·of, Fn·at, Fn·of, ImplMember·at, ImplMember·of, Impl·at, Impl·of, Trait·at, Trait·of, TopFnDecl·at, TopFnDecl·of, Use·at, Use·of}
-use Rattle.mirror.proofs.Run.{_⨾_}
+use Rattle.records.proofs.Run.{_⨾_}
 use Rattle.mirror.proofs.Rows.{Law, Codec, row, sure, plain, Plain, plain·codec, text·codec, kept·codec, option·codec, option·back, seq·codec, seq·back}
 use Rattle.mirror.proofs.Paths.{Path·back, Path·codec}
 use Rattle.mirror.proofs.Types.{Type·back, Types·back, Type·codec, Types·codec}

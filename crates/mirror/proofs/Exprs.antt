@@ -10,7 +10,7 @@ use Rattle.mirror.specs.Rast.{Expr, RawExpr, ExprFromType, Identifier, M
 use Rattle.mirror.specs.Rast.{Exprs, []ᵉ, _∷ᵉ_, OptExpr, None, Some, MatchCase, MatchCase′, MatchCases, []ᶜ, _∷ᶜ_, AssignIdentifier, AssignIdentifier′, AssignIdentifiers, []ᵃ, _∷ᵃ_}
 use Rattle.mirror.specs.Tree.{list, Formal·tree, Expr·tree, Exprs·trees, OptExpr·tree, MatchCase·tree, MatchCases·trees, AssignIdentifier·tree, AssignIdentifiers·trees}
 use Rattle.mirror.proofs.Decode.{read, fold, foldAll, Formal·at, Expr·absent, Expr·at, MatchCase·at, AssignIdentifier·at, Expr·reading, Expr·of, Exprs·of, OptExpr·of, MatchCase·of, MatchCases·of, AssignIdentifier·of, AssignIdentifiers·of, Exprs·from, OptExpr·from, MatchCases·from, AssignIdentifiers·from}
-use Rattle.mirror.proofs.Run.{Run, _⨾_}
+use Rattle.records.proofs.Run.{Run, _⨾_}
 use Rattle.mirror.proofs.Rows.{Layer, Law, Codec, GoodAll, Case, refold, layer, plain, Plain, plain·codec, row, all-good, sure, kinds-right, seq-right, option-right, text·codec, kept·codec, option·codec, option·back, seq·codec, seq·back}
 use Rattle.mirror.proofs.Paths.{Path·back, Path·codec}
 use Rattle.mirror.proofs.Types.{Type·back, Types·back, Type·codec, Types·codec}

@@ -6,7 +6,6 @@ pub mod Mappings
 pub mod Pass
 pub mod Theorem
 pub mod Decode
-pub mod Run
 pub mod Rows
 pub mod Paths
 pub mod Types

@@ -8,7 +8,7 @@ use Rattle.records.proofs.Fits.{Fits}
 use Rattle.mirror.specs.Rast.{Path, Global, Crate, Self, PMemberSelect}
 use Rattle.mirror.specs.Tree.{Path·tree}
 use Rattle.mirror.proofs.Decode.{fold, foldAll, Path·absent, Path·at, Path·of}
-use Rattle.mirror.proofs.Run.{_⨾_}
+use Rattle.records.proofs.Run.{_⨾_}
 use Rattle.mirror.proofs.Rows.{Layer, Law, Codec, GoodAll, refold, layer, row, all-good, sure, kinds-right, name·codec, distinct, reached}
 
 pub Path·back : (p : Path) → Path·of (Path·tree p) ≡ p

@@ -14,7 +14,8 @@ use Rattle.records.proofs.Fits.{Fits, FitsAll}
 use Rattle.mirror.specs.Tree.{list, trees}
 use Rattle.mirror.specs.Tree
 use Rattle.mirror.proofs.Decode.{each, Kid, foldAll, kid, first, rest, gather, atMost, own, from, read, absent, seq·of, option·of}
-use Rattle.mirror.proofs.Run.{Run, within, in-run}
+use Rattle.records.proofs.Run.{Run, within, in-run}
+use Rattle.records.proofs.Leaves.{no-records, leaf-right, one-kind}
 
 -- one way of reading the records that a record holds, and what is known of them
 pub record Layer : Type 1 where
@@ -51,22 +52,6 @@ module _ {D : Type 0} (reading : ℕ → List (Kid D) → D) where
 
   abbrev pub layer : Kid D → (Record → Type 0) → Layer
   layer other Good = record { Kid = Kid D; other = other; kid = kid reading; itself = λ x. x .own; itself-is = λ r. refl; Good = Good }
-
-pub no-records : (c : Records) → FitsAll c bytes → ⊥
-unfolding FitsAll
-no-records nil f = f
-no-records (r ▸ c) f = f
-
--- a record of bytes
-pub leaf-right : (p : Place) (k₀ : ℕ) → ((k : ℕ) → stands p k ≡ true → k ≡ k₀) → contentAt p k₀ ≡ bytes → (r : Record) → Fits r p → leaf k₀ (text r) ≡ r
-unfolding Fits
-leaf-right p k₀ same holds (leaf k b) f = ap (λ (k : ℕ). leaf k b) (sym (same k (f .0)))
-leaf-right p k₀ same holds (node k c) f = absurd (no-records c (subst (λ (x : Content). FitsAll c x) (ap (contentAt p) (same k (f .0)) ∙ holds) (f .1)))
-
-pub one-kind : (k₀ k : ℕ) → stands (one k₀) k ≡ true → k ≡ k₀
-one-kind k₀ k e =
-    let h = within k₀ k₀ k e in
-    omega arith
 
 -- a record of other records of a kind from 4 on holds what its row says
 no-leaf : (k : ℕ) → 4 ≤ k → isLeaf k ≡ false

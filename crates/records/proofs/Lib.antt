@@ -4,3 +4,6 @@ pub mod Step
 pub mod Sound
 pub mod FitsRead
 pub mod Fuel
+pub mod Run
+pub mod Closed
+pub mod Leaves

@@ -153,7 +153,7 @@ rows =
     ∷ row 0x86 (expr ∷ [])  -- ImplMemberMacro(expr)
     ∷ []
 
-abbrev rowIn : List Row → ℕ → List Place
+abbrev pub rowIn : List Row → ℕ → List Place
 rowIn [] k = []
 rowIn (r ∷ rs) k = cond (eqb k (r .kind)) (r .places) (rowIn rs k)
 

@@ -27,7 +27,7 @@ module _ (P : ℕ → Type 0) where
         | no here ↦ (let same : from ≡ k = omega arith in subst P same (x .0))
       ]
 
-both : (a b : Bool) → a && b ≡ true → (a ≡ true) × (b ≡ true)
+pub both : (a b : Bool) → a && b ≡ true → (a ≡ true) × (b ≡ true)
 both true b e = (refl, e)
 both false b e = absurd (false≢true e)
 

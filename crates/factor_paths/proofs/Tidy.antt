@@ -1,0 +1,107 @@
+-- What a tree that fits a place says to the walks: its path types and path expressions hold one path, and which kinds lie in types, expressions and declarations. Assumes nothing.
+use mathlib.Core.Path.{_≡_, refl, ap, ap₂, sym, subst, _∙_}
+use mathlib.Core.List.{List, [], _∷_}
+use mathlib.Core.Bool.{Bool, true, false, not, _&&_, _||_, cond, false≢true}
+use Prim.Native.Nat.{ℕ}
+use lib.Dec.{eqb, leb}
+use borrow.Author.Tests.{eqb-true}
+use Rattle.records.specs.Record.{Record, Records, leaf, node, nil, _▸_, kind, text, children, nth, field, is, isLeaf}
+use Rattle.records.specs.Kinds.{Place, kinds, name, seq, option, stands, path, type, expr, one, Content, bytes, these, any, atMostOne, rowOf, contentAt}
+use Rattle.records.proofs.Fits.{Fits, FitsAll}
+use Rattle.records.proofs.Leaves.{name-right, NodeAt, node-at, these-no-bytes}
+use Rattle.records.proofs.Closed.{Of, OfAll, holdsAt, closed, fits-of}
+use Rattle.rast.specs.Path.{Path, MSel}
+
+-- the kinds that lie in types; in types and expressions; and in declarations that are no modules
+abbrev pub typeKind : ℕ → Bool
+typeKind k = leb 1 k && leb k 3 || stands path k || stands type k
+
+abbrev pub termKind : ℕ → Bool
+termKind k = typeKind k || stands expr k || eqb k 0x7E || eqb k 0x81 || eqb k 0x82
+
+abbrev pub declKind : ℕ → Bool
+declKind k = not (stands (kinds 0x60 0x62) k)
+
+pub types-closed : closed typeKind ≡ true
+types-closed = refl
+
+pub terms-closed : closed termKind ≡ true
+terms-closed = refl
+
+pub decls-closed : closed declKind ≡ true
+decls-closed = refl
+
+-- what a path type or a path expression holds: one record of a path's kind, spelled as MSel spells it where it selects a name
+pub record PathIn (c : Records) : Type 0 where
+  pub held : Record
+  pub only : c ≡ held ▸ nil
+  pub stands-path : stands path (kind held) ≡ true
+  pub spelled : is 0x13 held ≡ true → held ≡ MSel (field 0 held) (text (field 1 held))
+
+unfoldable mutual
+  pub Paths : Record → Type 0
+  Paths (leaf k b) = Unit {0}
+  Paths (node k c) = (eqb k 0x2D || eqb k 0x5C ≡ true → PathIn c) × PathsAll c
+
+  pub PathsAll : Records → Type 0
+  PathsAll nil = Unit {0}
+  PathsAll (r ▸ c) = Paths r × PathsAll c
+
+-- a PMemberSelect that fits is spelled as MSel spells it
+spelled-path : (r : Record) → Fits r path → is 0x13 r ≡ true → r ≡ MSel (field 0 r) (text (field 1 r))
+unfolding contentAt rowOf FitsAll nth
+spelled-path r f e =
+    let h : NodeAt r 0x13 (these (path ∷ name ∷ [])) = node-at r path 0x13 (these (path ∷ name ∷ [])) e refl (these-no-bytes (path ∷ name ∷ [])) f in
+    h .is-node ∙ ap (node 0x13) (two (children r) (h .fits))
+  where
+    two : (c : Records) → FitsAll c (these (path ∷ name ∷ [])) → c ≡ nth 0 c ▸ leaf 0x01 (text (nth 1 c)) ▸ nil
+    two nil f = absurd f
+    two (r ▸ nil) f = absurd (f .1)
+    two (r ▸ s ▸ nil) f = ap (λ u. r ▸ u ▸ nil) (sym (name-right s (f .1 .0)))
+    two (r ▸ s ▸ t ▸ c) f = absurd (f .1 .1)
+
+path-kind : (r : Record) → Fits r path → stands path (kind r) ≡ true
+unfolding Fits
+path-kind (leaf k b) f = f .0
+path-kind (node k c) f = f .0
+
+path-in : (c : Records) → FitsAll c (these (path ∷ [])) → PathIn c
+unfolding FitsAll
+path-in nil f = absurd f
+path-in (r ▸ nil) f = record { held = r; only = refl; stands-path = path-kind r (f .0); spelled = spelled-path r (f .0) }
+path-in (r ▸ s ▸ c) f = absurd (f .1)
+
+-- the places at which a kind that is 2D or 5C stands hold its row
+path-row : (p : Place) (k : ℕ) → eqb k 0x2D || eqb k 0x5C ≡ true → stands p k ≡ true → contentAt p k ≡ these (path ∷ [])
+unfolding contentAt rowOf
+path-row p k e s = go (eqb k 0x2D) (eqb k 0x5C) refl refl e
+  where
+    at : (p : Place) (k₀ : ℕ) → isLeaf k₀ ≡ false → eqb k₀ 0x01 ≡ false → eqb k₀ 0x02 ≡ false → rowOf k₀ ≡ path ∷ [] → stands p k₀ ≡ true → contentAt p k₀ ≡ these (path ∷ [])
+    at (kinds from to) k₀ l a b r s = rw (l, r)
+    at name k₀ l a b r s = absurd (false≢true (sym a ∙ s))
+    at (seq p) k₀ l a b r s = absurd (false≢true (sym b ∙ s))
+    at (option p) k₀ l a b r s = absurd (false≢true (sym b ∙ s))
+
+    go : (t u : Bool) → eqb k 0x2D ≡ t → eqb k 0x5C ≡ u → t || u ≡ true → contentAt p k ≡ these (path ∷ [])
+    go true u a b e =
+        let same : k ≡ 0x2D = eqb-true k 0x2D a in
+        rw same (at p 0x2D refl refl refl refl (rw same at s))
+    go false true a b e =
+        let same : k ≡ 0x5C = eqb-true k 0x5C b in
+        rw same (at p 0x5C refl refl refl refl (rw same at s))
+    go false false a b e = absurd (false≢true e)
+
+mutual
+  unfolding Fits FitsAll Paths
+
+  pub fits-paths : (r : Record) (p : Place) → Fits r p → Paths r
+  fits-paths (leaf k b) p f = tt
+  fits-paths (node k c) p f = (λ e. path-in c (subst (λ (t : Content). FitsAll c t) (path-row p k e (f .0)) (f .1)), fits-paths-all c (contentAt p k) (f .1))
+
+  pub fits-paths-all : (c : Records) (t : Content) → FitsAll c t → PathsAll c
+  fits-paths-all nil t f = tt
+  fits-paths-all (r ▸ c) bytes f = absurd f
+  fits-paths-all (r ▸ c) (these []) f = absurd f
+  fits-paths-all (r ▸ c) (these (p ∷ ps)) f = (fits-paths r p (f .0), fits-paths-all c (these ps) (f .1))
+  fits-paths-all (r ▸ c) (any p) f = (fits-paths r p (f .0), fits-paths-all c (any p) (f .1))
+  fits-paths-all (r ▸ c) (atMostOne p) f = (fits-paths r p (f .0), fits-paths-all c (these []) (f .1))

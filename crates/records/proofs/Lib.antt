@@ -7,3 +7,4 @@ pub mod Fuel
 pub mod Run
 pub mod Closed
 pub mod Leaves
+pub mod ByRow

@@ -1,2 +1,6 @@
+pub mod Maps
+pub mod Mappings
+pub mod Visits
+pub mod Final
 pub mod Tidy
 pub mod Wraps

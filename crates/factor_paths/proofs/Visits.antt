@@ -1,0 +1,63 @@
+-- What Add keeps, PathsVisitor keeps. Assumes nothing.
+use mathlib.Core.Bool.{cond}
+use Prim.Native.Nat.{ℕ}
+use Rattle.records.specs.Record.{Record, field, is}
+use Rattle.rast.specs.Path.{Name, Path, Self, Selected, selected, whether}
+use Rattle.rast.specs.Operation.{Operation}
+use Rattle.rast.proofs.Names.{Names}
+use Rattle.rast.proofs.Tests.{either, one-of, whichever}
+use Rattle.rast.proofs.Keeps.{VisitMod-keeps}
+use Rattle.factor_paths.specs.Mapping.{Mapping, noMapping, Add, equal}
+use Rattle.factor_paths.specs.PathsVisitor.{marked, unmarked, VisitTypeSingle, VisitExprSingle, VisitTraitName, VisitModDeclSingle, PathsVisitor}
+use Rattle.factor_paths.specs.Apply.{mappings}
+use Rattle.factor_paths.proofs.Mappings.{Good, noMapping-good, add-good}
+
+module _ (op : Operation) where
+  module _ (R : Mapping → Mapping → Type 0) (S : Path) (h : (o a : Mapping) (k : Name) → R o a → R (Add op o k S) (Add op a k S)) where
+    trait-keeps : (o a : Mapping) (t : Record) → R o a → R (VisitTraitName op o t S) (VisitTraitName op a t S)
+    unfolding VisitTraitName
+    trait-keeps o a t r =
+        let at : (Record → Mapping) → (Record → Mapping) → Type 0 = λ f g. R (f t) (g t) in
+        either at (is 0x2E t) (either R (is 0x2C (field 0 t)) (h o a _ r) r) (either at (is 0x2C t) (h o a _ r) r)
+
+    -- what adding one name's path in the one and in the other keeps between two mappings, the visit of a declaration itself keeps
+    pub declaration-keeps : (o a : Mapping) (d : Record) → R o a → R (VisitModDeclSingle op o d S) (VisitModDeclSingle op a d S)
+    unfolding VisitModDeclSingle
+    declaration-keeps o a d r =
+        let at : (Record → Mapping) → (Record → Mapping) → Type 0 = λ f g. R (f d) (g d) in
+        either at (is 0x62 d) (h o a _ r)
+        (either at (is 0x63 d) (h o a _ r)
+        (either at (is 0x64 d) (h o a _ r)
+        (either at (is 0x65 d) (h o a _ r)
+        (either at (is 0x66 d) (h o a _ r)
+        (either at (is 0x67 d) r
+        (either at (is 0x68 d) (trait-keeps o a (field 3 (field 0 d)) r)
+        (either at (is 0x69 d) (h o a _ r)
+        (either at (is 0x6A d) r
+        r))))))))
+
+  module _ (P : Mapping → Type 0) (h : (m : Mapping) (k : Name) (p : Path) → P m → P (Add op m k p)) where
+    selected-keeps : (k : ℕ) (r : Record) (name : Selected → Name) (m : Mapping) → P m
+        → P (whether (selected k r) m (λ s. cond (equal op (s .base) Self) m (Add op m (name s) (s .base))))
+    selected-keeps k r name m p = whichever P (selected k r) p (λ s. one-of P (equal op (s .base) Self) p (h m (name s) (s .base) p))
+
+    -- what adding keeps, the visit of a type itself keeps
+    pub type-keeps : (m : Mapping) (t : Record) → P m → P (VisitTypeSingle op m t)
+    unfolding VisitTypeSingle
+    type-keeps m t = selected-keeps 0x2D t (λ s. s .name) m
+
+    -- and of an expression itself
+    pub expr-keeps : (m : Mapping) (e : Record) → P m → P (VisitExprSingle op m e)
+    unfolding VisitExprSingle
+    expr-keeps m e = selected-keeps 0x5C e (λ s. cond (marked (s .name)) (unmarked (s .name)) (s .name)) m
+
+    -- what the empty mapping has and adding keeps, a module's mapping has
+    pub mappings-keep : (m : Record) (SelfPath : Path) → P noMapping → P (mappings op m SelfPath)
+    unfolding mappings
+    mappings-keep m SelfPath =
+        VisitMod-keeps P (PathsVisitor op) type-keeps expr-keeps SelfPath
+        (λ a d. declaration-keeps (λ o a. P a) SelfPath (λ o a k. h a k SelfPath) a a d) noMapping m
+
+  -- a module's mapping is good
+  pub mappings-good : Names op → (m : Record) (SelfPath : Path) → Good op (mappings op m SelfPath)
+  mappings-good N m SelfPath = mappings-keep (Good op) (add-good op N) m SelfPath (noMapping-good op)

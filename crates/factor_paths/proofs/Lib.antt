@@ -4,3 +4,5 @@ pub mod Visits
 pub mod Final
 pub mod Tidy
 pub mod Wraps
+pub mod Walks
+pub mod Modules

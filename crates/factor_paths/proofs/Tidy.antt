@@ -12,12 +12,12 @@ use Rattle.records.proofs.Leaves.{name-right, NodeAt, node-at, these-no-bytes}
 use Rattle.records.proofs.Closed.{Of, OfAll, holdsAt, closed, fits-of}
 use Rattle.rast.specs.Path.{Path, MSel}
 
--- the kinds that lie in types; in types and expressions; and in declarations that are no modules
+-- the kinds that lie in types and formals; in these and expressions; and in declarations that are no modules
 abbrev pub typeKind : ℕ → Bool
-typeKind k = leb 1 k && leb k 3 || stands path k || stands type k
+typeKind k = leb 1 k && leb k 3 || stands path k || stands type k || eqb k 0x7E
 
 abbrev pub termKind : ℕ → Bool
-termKind k = typeKind k || stands expr k || eqb k 0x7E || eqb k 0x81 || eqb k 0x82
+termKind k = typeKind k || stands expr k || eqb k 0x81 || eqb k 0x82
 
 abbrev pub declKind : ℕ → Bool
 declKind k = not (stands (kinds 0x60 0x62) k)

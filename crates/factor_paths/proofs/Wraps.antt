@@ -51,17 +51,17 @@ at-literal k₀ h k e = subst Same (sym (eqb-true k k₀ e)) h
 
 pub same-step : (k : ℕ) → termKind k ≡ true → Same k
 same-step k e =
-    either (typeKind k || stands expr k || eqb k 0x7E || eqb k 0x81) (eqb k 0x82) e
-    (λ e. either (typeKind k || stands expr k || eqb k 0x7E) (eqb k 0x81) e
-    (λ e. either (typeKind k || stands expr k) (eqb k 0x7E) e
+    either (typeKind k || stands expr k || eqb k 0x81) (eqb k 0x82) e
+    (λ e. either (typeKind k || stands expr k) (eqb k 0x81) e
     (λ e. either (typeKind k) (stands expr k) e
+    (λ e. either (leb 1 k && leb k 3 || stands path k || stands type k) (eqb k 0x7E) e
     (λ e. either (leb 1 k && leb k 3 || stands path k) (stands type k) e
     (λ e. either (leb 1 k && leb k 3) (stands path k) e
     (in-run Same 1 2 (refl ⨾ refl ⨾ refl) k)
     (in-run Same 0x10 3 (refl ⨾ refl ⨾ refl ⨾ refl) k))
     (λ e. tested (stands type k) (stands expr k) _ _ (or-left (stands type k) (stands expr k) e)))
-    (λ e. tested (stands type k) (stands expr k) _ _ (or-right (stands type k) (stands expr k) e)))
     (at-literal 0x7E refl k))
+    (λ e. tested (stands type k) (stands expr k) _ _ (or-right (stands type k) (stands expr k) e)))
     (at-literal 0x81 refl k))
     (at-literal 0x82 refl k)
 
@@ -74,11 +74,13 @@ isExpr other = false
 
 no-expr-role : (k : ℕ) → typeKind k ≡ true → isExpr (role k) ≡ false
 no-expr-role k e =
-    either (leb 1 k && leb k 3 || stands path k) (stands type k) e
+    either (leb 1 k && leb k 3 || stands path k || stands type k) (eqb k 0x7E) e
+    (λ e. either (leb 1 k && leb k 3 || stands path k) (stands type k) e
     (λ e. either (leb 1 k && leb k 3) (stands path k) e
     (in-run (λ k. isExpr (role k) ≡ false) 1 2 (refl ⨾ refl ⨾ refl) k)
     (in-run (λ k. isExpr (role k) ≡ false) 0x10 3 (refl ⨾ refl ⨾ refl ⨾ refl) k))
-    (λ e. go (stands type k) e)
+    (λ e. go (stands type k) e))
+    (λ e. subst (λ (k : ℕ). isExpr (role k) ≡ false) (sym (eqb-true k 0x7E e)) refl)
   where
     go : (t : Bool) → t ≡ true → isExpr (cond t roleType (cond (stands expr k) roleExpr (cond (eqb k 0x02 || eqb k 0x7E || eqb k 0x81 || eqb k 0x82) roleHolds other))) ≡ false
     go true e = refl

@@ -1,11 +1,12 @@
--- One walk over a declaration that is to do what the replacer does with PathSimplifier; that it does is not proved yet. Assumes nothing: these are definitions.
+-- One walk over a module's declarations that does what the replacer does with PathSimplifier: proofs/Wraps, Walks and Modules show it. Assumes nothing: these are definitions.
 use mathlib.Core.Bool.{Bool, true, false, _&&_, _||_, cond}
 use Prim.Native.Nat.{ℕ, zero, suc}
 use lib.Dec.{eqb, leb}
-use Rattle.records.specs.Record.{Record, Records, leaf, node, nil, _▸_, isLeaf}
+use Rattle.records.specs.Record.{Record, Records, leaf, node, nil, _▸_, isLeaf, is, update}
 use Rattle.records.specs.Kinds.{stands, path, type, expr, kinds}
 use Rattle.rast.specs.Path.{Name, Path, selected, whether}
-use Rattle.rast.specs.Operation.{Operation}
+use Rattle.rast.specs.Operation.{Operation, nested}
+use Rattle.rast.specs.Mod.{nameOf}
 use Rattle.factor_paths.specs.Mapping.{FinalReplacement}
 use Rattle.factor_paths.specs.Apply.{TIdentifier, TSynonym, replaces, ReplaceExprSingle}
 
@@ -59,3 +60,7 @@ module _ (op : Operation) (replacement : FinalReplacement) where
     pub walkFn : ℕ → Records → Records
     walkFn i nil = nil
     walkFn i (r ▸ c) = walk (leb 2 i && op .walksAgain) 1 r ▸ walkFn (suc i) c
+
+  -- a declaration: a module in it goes on by f, with its prefix; any other is walked
+  unfoldable pub walkDecl : (Record → Path → Record) → Path → Record → Record
+  walkDecl f SelfPath d = cond (is 0x62 d) (update 0 (λ m. f m (nested op SelfPath (nameOf m))) d) (walk false 1 d)

@@ -1,12 +1,11 @@
 -- The uses put ahead of a module: what looking a name up in them gives, what they are, and the names that they bear. Assumes nothing.
-use mathlib.Core.Path.{_≡_, refl, sym, _∙_}
+use mathlib.Core.Path.{_≡_, refl, sym, ap, _∙_}
 use mathlib.Core.List.{List, [], _∷_, _++_}
 use mathlib.Core.Bool.{true, false, not, _||_, or-true, or-false, or-assoc, and-eq-true-iff, false≢true, true≢false}
 use mathlib.Core.Option.{none, some}
 use Prim.Native.Nat.{ℕ}
 use native.Mathlib.Omega.{arith}
 use borrow.Author.Tests.{not-true}
-use Rattle.wire.specs.Numbers.{sameBytes}
 use Rattle.wire.proofs.Numbers.{sameBytes-true}
 use Rattle.records.specs.Record.{Record, Records, _▸_, nth}
 use Rattle.rast.specs.Path.{Name, Path, MSel}
@@ -142,14 +141,21 @@ module _ (op : Operation) where
         (bear-different (pathsToRemove op m SelfPath) SelfPath (mappings op m SelfPath .provenance) (good .apart) (own op m SelfPath)
         (λ k h t. absurd (true≢false (sym (final-self op N k (mappings op m SelfPath .provenance) SelfPath (good .apart) (owned SelfPath m k h)) ∙ t))))
 
-unmarked-has : (n : Name) (ns : List Name) → has upstream n ns ≡ true → unmarkedAll ns ≡ true → marked n ≡ false
-unfolding has unmarkedAll
-unmarked-has n [] h u = absurd (false≢true h)
-unmarked-has n (m ∷ ms) h u =
-    let v = and-eq-true-iff (not (marked m)) (unmarkedAll ms) .0 u in
-    by-test (sameBytes n m) (λ t. rw (sameBytes-true n m t) (not-true (marked m) (v .0))) (λ t. unmarked-has n ms (rw t at h) (v .1))
+-- names that are the same end alike in '!'
+abbrev pub Marks : Operation → Type 0
+Marks op = (a b : Name) → op .sameName a b ≡ true → marked a ≡ marked b
 
--- a name that is replaced does not end in '!' where no collected name does, upstream
-pub replaced-unmarked : (m : Record) (SelfPath : Path) (n : Name) (b : Path) → replaces upstream (pathsToRemove upstream m SelfPath) n b ≡ true
-    → unmarkedAll (collected upstream m SelfPath) ≡ true → marked n ≡ false
-replaced-unmarked m SelfPath n b h = unmarked-has n (collected upstream m SelfPath) (replaced-collected upstream upstream-names m SelfPath n b h)
+pub upstream-marks : Marks upstream
+upstream-marks a b e = ap marked (sameBytes-true a b e)
+
+unmarked-has : (op : Operation) → Marks op → (n : Name) (ns : List Name) → has op n ns ≡ true → unmarkedAll ns ≡ true → marked n ≡ false
+unfolding has unmarkedAll
+unmarked-has op alike n [] h u = absurd (false≢true h)
+unmarked-has op alike n (m ∷ ms) h u =
+    let v = and-eq-true-iff (not (marked m)) (unmarkedAll ms) .0 u in
+    by-test (op .sameName n m) (λ t. alike n m t ∙ not-true (marked m) (v .0)) (λ t. unmarked-has op alike n ms (rw t at h) (v .1))
+
+-- a name that is replaced does not end in '!' where no collected name does
+pub replaced-unmarked : (op : Operation) → Names op → Marks op → (m : Record) (SelfPath : Path) (n : Name) (b : Path) → replaces op (pathsToRemove op m SelfPath) n b ≡ true
+    → unmarkedAll (collected op m SelfPath) ≡ true → marked n ≡ false
+replaced-unmarked op N alike m SelfPath n b h = unmarked-has op alike n (collected op m SelfPath) (replaced-collected op N m SelfPath n b h)

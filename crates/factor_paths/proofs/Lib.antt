@@ -6,3 +6,4 @@ pub mod Tidy
 pub mod Wraps
 pub mod Walks
 pub mod Modules
+pub mod Uses

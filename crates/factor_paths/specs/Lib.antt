@@ -2,3 +2,4 @@ pub mod Mapping
 pub mod PathsVisitor
 pub mod Apply
 pub mod Walk
+pub mod LookUp

@@ -1,3 +1,2 @@
-pub mod Uses
 pub mod Walked
 pub mod Modules

@@ -21,9 +21,9 @@ use Rattle.factor_paths.specs.Apply.{pathsToRemove, imports, applyPrefix, apply
 use Rattle.factor_paths.specs.Walk.{walk, walkDecl}
 use Rattle.factor_paths.proofs.Tidy.{declKind, decls-closed, fits-paths}
 use Rattle.factor_paths.proofs.Modules.{ModFields, mod-fields, module-walk, extern-walk}
-use Rattle.points.specs.LookUp.{collected, own, different, namesBorne}
-use Rattle.points.specs.Points.{Module, Ahead, UseDecls, Met, Point, Points, outside}
-use Rattle.points.proofs.Uses.{Marks, imports-are, imports-different}
+use Rattle.factor_paths.specs.LookUp.{collected, own, different, namesBorne}
+use Rattle.points.specs.Points.{Module, Ahead, Point, Points, outside}
+use Rattle.factor_paths.proofs.Uses.{Marks, imports-are, imports-different}
 use Rattle.points.proofs.Walked.{same-node, point-self, points-self, walk-point}
 
 -- how many, and which, are put ahead

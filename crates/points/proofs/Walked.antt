@@ -18,9 +18,9 @@ use Rattle.factor_paths.specs.Apply.{Identifier, pathsToRemove, imports, replac
 use Rattle.factor_paths.specs.Walk.{Step, aType, anExpr, aFn, left, holds, stepOf, deeper, synonyms, wrap, stepped, walk, walkAll, walkFn}
 use Rattle.factor_paths.proofs.Tidy.{declKind, PathIn, Paths, PathsAll}
 use Rattle.factor_paths.proofs.Wraps.{paths-walked, wrap-other, expr-other, or-left, or-right}
-use Rattle.points.specs.LookUp.{bare, barePath, unmarkedAll, lookUp, collected}
+use Rattle.factor_paths.specs.LookUp.{bare, barePath, unmarkedAll, lookUp, collected}
 use Rattle.points.specs.Points.{Module, Meeting, shortType, shortExpr, module′, elsewhere, meeting, Finds, ShortType, ShortExpr, Met, Point, Points}
-use Rattle.points.proofs.Uses.{Marks, looks-up, replaced-unmarked}
+use Rattle.factor_paths.proofs.Uses.{Marks, looks-up, replaced-unmarked}
 
 -- two kinds that are the same, and no module's, meet elsewhere
 pub meeting-same : (k : ℕ) → eqb k 0x60 ≡ false → meeting k k ≡ elsewhere

@@ -1,2 +1,1 @@
-pub mod LookUp
 pub mod Points

@@ -15,7 +15,7 @@ use Rattle.factor_paths.specs.Mapping.{equal}
 use Rattle.factor_paths.specs.Apply.{Identifier, apply}
 use Rattle.factor_paths.specs.Walk.{synonyms}
 use Rattle.outcome.specs.Outcome.{shorten}
-use Rattle.points.specs.LookUp.{pathOf, bare, barePath, unmarkedAll, namesBorne, lookUp, collected, own, different}
+use Rattle.factor_paths.specs.LookUp.{bare, barePath, unmarkedAll, namesBorne, UseDecls, lookUp, collected, own, different}
 
 -- the innermost Mod around a point: its prefix, the uses put ahead of its body, the names that it collects; and the prefix that a Mod in it has
 pub record Module : Type 0 where
@@ -30,11 +30,6 @@ putAhead this that = count (children (field 3 that)) - count (children (field 3 
 
 abbrev pub putAside : Record → Record → Record
 putAside this that = update 3 (λ body. put (skip (putAhead this that) (children body)) body) that
-
--- each is a UseDecl, and its path ends in a name
-unfoldable pub UseDecls : Records → Type 0
-UseDecls nil = Unit {0}
-UseDecls (d ▸ uses) = (kind d ≡ 0x6A) × (kind (pathOf d) ≡ 0x13) × UseDecls uses
 
 -- where TypeFromPath became TSynonym or ExprFromPath became Identifier, at a Mod, and elsewhere
 pub data Meeting : Type 0 where

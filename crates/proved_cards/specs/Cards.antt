@@ -81,11 +81,23 @@ accepted long n r s = record { card = encode r; long = long; room = n + 1; answe
 abbrev unchanged : ℕ → Record → ProvedCard
 unchanged n r = accepted n n r r
 
-abbrev P3-card : Record
+abbrev pub P3-card : Record
 P3-card = Mod m (ImplDecl (Impl (TypeFromPath (MSel Global B))) ▸ nil)
 
-abbrev P3-made : Record
+abbrev pub P3-made : Record
 P3-made = Mod m (useDecl (MSel Global B) ▸ ImplDecl (Impl (short B (MSel Global B))) ▸ nil)
+
+abbrev pub P8-card : Record
+P8-card = Mod m (constant k1 Bool′ (ExprFromPath (from a rd!)) ▸ nil)
+
+abbrev pub P8-made : Record
+P8-made = Mod m (useDecl (from a rd) ▸ constant k1 Bool′ (Identifier rd!) ▸ nil)
+
+abbrev pub P13-card : Record
+P13-card = Mod m (ModDecl (Mod b (constants (TypeFromPath (MSel (MSel (MSel (MSel Crate m) b) b) X)) (TypeFromPath (from c Y)))) ▸ nil)
+
+abbrev pub P13-made : Record
+P13-made = Mod m (ModDecl (Mod b (useDecl (from c Y) ▸ constants (short X (MSel (MSel (MSel (MSel Crate m) b) b) X)) (short Y (from c Y)))) ▸ nil)
 
 abbrev P1-bytes : Bytes
 P1-bytes = 9 ∷ 0 ∷ 0 ∷ 0 ∷ 0x61 ∷ 0 ∷ 3 ∷ 0 ∷ 0 ∷ 0 ∷ 1 ∷ 0 ∷ 0x61 ∷ []
@@ -109,9 +121,7 @@ provedCards =
     (Mod m (struct X nil ▸ constants (TypeFromPath (MSel (MSel Crate m) X)) (TypeFromPath (from a X))))
     (Mod m (struct X nil ▸ constants (short X (MSel (MSel Crate m) X)) (TypeFromPath (from a X))))
     -- P8: ::a::rd! as the value of a Bool constant; use ::a::rd, Identifier "rd!"
-    ∷ accepted 109 136
-    (Mod m (constant k1 Bool′ (ExprFromPath (from a rd!)) ▸ nil))
-    (Mod m (useDecl (from a rd) ▸ constant k1 Bool′ (Identifier rd!) ▸ nil))
+    ∷ accepted 109 136 P8-card P8-made
     -- P9: Self::X
     ∷ unchanged 100 (Mod m (constant k1 (TypeFromPath (MSel Self X)) (RawExpr []) ▸ nil))
     -- P10: ::a::X in a field of struct S only
@@ -125,9 +135,7 @@ provedCards =
     (Mod m (function f nil (ExprFromType (TypeFromPath (MSel Global B)) ▸ nil) ▸ nil))
     (Mod m (useDecl (MSel Global B) ▸ function f nil (ExprFromType (TSynonym (TIdentifier B) (short B (MSel Global B))) ▸ nil) ▸ nil))
     -- P13: module b in m, with crate::m::b::b::X and ::c::Y; X short with no use, use ::c::Y in b
-    ∷ accepted 258 347
-    (Mod m (ModDecl (Mod b (constants (TypeFromPath (MSel (MSel (MSel (MSel Crate m) b) b) X)) (TypeFromPath (from c Y)))) ▸ nil))
-    (Mod m (ModDecl (Mod b (useDecl (from c Y) ▸ constants (short X (MSel (MSel (MSel (MSel Crate m) b) b) X)) (short Y (from c Y)))) ▸ nil))
+    ∷ accepted 258 347 P13-card P13-made
     -- P14: a Mod with no content; P15: P1's card and one byte more
     ∷ record { card = 2 ∷ 0 ∷ 0 ∷ 0 ∷ 0x60 ∷ 0 ∷ []; long = 6; room = 40; answers = 4; with = 6; output = [] }
     ∷ record { card = P1-bytes ++ (0 ∷ []); long = 14; room = 40; answers = 7; with = 13; output = [] }

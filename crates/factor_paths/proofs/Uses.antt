@@ -15,15 +15,14 @@ use Rattle.rast.specs.Visitor.{VisitModMapping, VisitMod}
 use Rattle.rast.proofs.Tests.{by-test, by-option, there-is}
 use Rattle.rast.proofs.Names.{Names, turned, paths, selected-same, upstream-names}
 use Rattle.rast.proofs.Keeps.{modules-keep, VisitModMapping-keeps}
 use Rattle.factor_paths.specs.Mapping.{Entry, Mapping, noMapping, Add, FinalReplacement, equal, useDecl, get, ToUseStatements}
 use Rattle.factor_paths.specs.PathsVisitor.{marked, VisitModDeclSingle, PathsVisitor}
 use Rattle.factor_paths.specs.Apply.{mappings, pathsToRemove, imports, replaces}
 use Rattle.factor_paths.proofs.Maps.{namesOf, Apart, get-same}
 use Rattle.factor_paths.proofs.Mappings.{add-keys, holds, add-holds, added-holds}
 use Rattle.factor_paths.proofs.Visits.{type-keeps, expr-keeps, declaration-keeps, mappings-good}
 use Rattle.factor_paths.proofs.Final.{final-from, final-self}
-use Rattle.points.specs.LookUp.{unmarkedAll, namesBorne, lookUp, collected, own, has, different}
-use Rattle.points.specs.Points.{UseDecls}
+use Rattle.factor_paths.specs.LookUp.{unmarkedAll, namesBorne, UseDecls, lookUp, collected, own, has, different}
 
 module _ (op : Operation) where
   -- what the uses of the other keys have, and keep where a key's use comes first, they have with that key

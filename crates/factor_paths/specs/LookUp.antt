@@ -1,13 +1,14 @@
 -- 01, "Points and looking up", its second paragraph: looking a name up, and what a module collects. Assumes nothing: these are definitions.
+use mathlib.Core.Path.{_≡_}
 use mathlib.Core.List.{List, [], _∷_}
 use mathlib.Core.Bool.{Bool, true, false, not, _&&_, _||_, cond}
-use Rattle.records.specs.Record.{Record, Records, nil, _▸_, text, field, is, update, leaf}
+use Rattle.records.specs.Record.{Record, Records, leaf, nil, _▸_, kind, text, field, is, update}
 use Rattle.rast.specs.Path.{Name, Path, MSel}
 use Rattle.rast.specs.Operation.{Operation}
 use Rattle.rast.specs.Mod.{Mod·Fold}
 use Rattle.factor_paths.specs.Mapping.{noMapping}
 use Rattle.factor_paths.specs.PathsVisitor.{marked, unmarked, VisitModDeclSingle}
 use Rattle.factor_paths.specs.Apply.{mappings}
 
 -- the path of UseDecl(Use(visibility, path)), and the name that this path ends in
 abbrev pub pathOf : Record → Path
@@ -22,6 +23,11 @@ bare n = cond (marked n) (unmarked n) n
 
 abbrev pub barePath : Path → Path
 barePath p = cond (is 0x13 p) (update 1 (λ n. leaf 0x01 (bare (text n))) p) p
+
+-- each is a UseDecl, and its path ends in a name
+unfoldable pub UseDecls : Records → Type 0
+UseDecls nil = Unit {0}
+UseDecls (d ▸ uses) = (kind d ≡ 0x6A) × (kind (pathOf d) ≡ 0x13) × UseDecls uses
 
 -- no name ends in '!'
 unfoldable pub unmarkedAll : List Name → Bool

@@ -1,12 +1,12 @@
 -- The laws of numbers in bytes. Assumes nothing.
-use mathlib.Core.Path.{_≡_, refl, ap}
+use mathlib.Core.Path.{_≡_, refl, ap, ap₂, sym, _∙_}
 use mathlib.Core.List.{[], _∷_, _++_}
 use mathlib.Core.Bool.{Bool, true, false, _&&_}
-use Prim.Native.Nat.{ℕ, zero, suc, _+_, _*_, _/_, _%_, _^_, _<_}
-use native.Mathlib.Nat.{pow-suc, div-lt-iff-lt-mul, mod-lt, zero-lt-suc}
+use Prim.Native.Nat.{ℕ, zero, suc, _+_, _-_, _*_, _/_, _%_, _^_, _<_, _≤_}
+use native.Mathlib.Nat.{pow-suc, pow-le-pow-right, div-lt-iff-lt-mul, mod-lt, zero-lt-suc}
 use native.Mathlib.Omega.{arith}
-use lib.ListN.{length, take, drop}
-use lib.Seq.{take-at, drop-at}
+use lib.ListN.{length, take, drop, getD, drop-of-length-le}
+use lib.Seq.{take-at, drop-at, take-nil, drop-cons}
 use lib.Dec.{eqb}
 use borrow.Author.Tests.{eqb-true, eq-eqb}
 use Rattle.wire.specs.Numbers.{Bytes, AreBytes, le, num, sameBytes}
@@ -92,3 +92,48 @@ sameBytes-true (a ∷ s) (b ∷ t) h = go (eqb a b) refl (sameBytes-true s t) h
     go : (x : Bool) → eqb a b ≡ x → (sameBytes s t ≡ true → s ≡ t) → (x && sameBytes s t) ≡ true → a ∷ s ≡ b ∷ t
     go true e f g = let p : a ≡ b = eqb-true a b e in let q : s ≡ t = f g in cc
     go false e f g = cc
+
+-- one byte more in front, and nothing past the end
+pub num-front : (s : Bytes) (at k : ℕ) → at < length s → num (take (suc k) (drop at s)) ≡ num (take k (drop (suc at) s)) * 256 + getD s at 0
+unfolding num
+num-front s at k h = rw (drop-cons s at 0) (omega arith)
+
+pub num-past : (s : Bytes) (at k : ℕ) → length s ≤ at → num (take k (drop at s)) ≡ 0
+unfolding num
+num-past s at k h = rw (drop-of-length-le s {i = at} h, take-nil k)
+
+-- a number read from its last byte to its first: what has been gathered when i bytes are left
+pub record Gathered (s : Bytes) (from w n i : ℕ) : Type 0 where
+  pub left : i ≤ w
+  pub is : n ≡ num (take (w - i) (drop (from + i) s))
+  pub small : n < 256 ^ (w - i)
+
+pub gathered-none : (s : Bytes) (from w : ℕ) → Gathered s from w 0 w
+unfolding num
+gathered-none s from w = let e : w - w ≡ 0 = omega arith in record { left = omega arith; is = rw e; small = rw e (omega arith) }
+
+pub gathered-byte : (s : Bytes) (from w n i : ℕ) → 0 < i → from + (i - 1) < length s → getD s (from + (i - 1)) 0 < 256 → Gathered s from w n i → Gathered s from w (n * 256 + getD s (from + (i - 1)) 0) (i - 1)
+gathered-byte s from w n i p h b g =
+    let e : w - (i - 1) ≡ suc (w - i) = (let l = g .left in omega arith) in
+    let f : suc (from + (i - 1)) ≡ from + i = omega arith in
+    record {
+      left = (let l = g .left in omega arith);
+      is = rw (e, num-front s (from + (i - 1)) (w - i) h, f, ← g .is);
+      small = rw (e, pow-suc 256 (w - i)) (let l = g .small in omega arith);
+    }
+
+pub gathered-past : (s : Bytes) (from w n i : ℕ) → 0 < i → length s ≤ from + (i - 1) → Gathered s from w n i → Gathered s from w n (i - 1)
+gathered-past s from w n i p h g =
+    let z : n ≡ 0 = g .is ∙ num-past s (from + i) (w - i) (omega arith) in
+    record {
+      left = (let l = g .left in omega arith);
+      is = z ∙ sym (num-past s (from + (i - 1)) (w - (i - 1)) h);
+      small = (let m : 256 ^ (w - i) ≤ 256 ^ (w - (i - 1)) = pow-le-pow-right (zero-lt-suc 255) (let l = g .left in omega arith) in let l = g .small in omega arith);
+    }
+
+pub gathered-all : (s : Bytes) (from w n i : ℕ) → i ≤ 0 → Gathered s from w n i → n ≡ num (take w (drop from s))
+gathered-all s from w n i h g = let a : w - i ≡ w = omega arith in let b : from + i ≡ from = omega arith in g .is ∙ ap₂ (λ (x y : ℕ). num (take x (drop y s))) a b
+
+-- while a byte of four is left, what is gathered fits three
+pub gathered-below : (s : Bytes) (from w n i : ℕ) → w ≤ 4 → 0 < i → Gathered s from w n i → n < 16777216
+gathered-below s from w n i h p g = let m : 256 ^ (w - i) ≤ 256 ^ 3 = pow-le-pow-right (zero-lt-suc 255) {i = w - i} {j = 3} (omega arith) in let l = g .small in omega arith

@@ -8,3 +8,5 @@ pub mod Run
 pub mod Closed
 pub mod Leaves
 pub mod ByRow
+pub mod Hereditary
+pub mod Shape

@@ -54,7 +54,7 @@ module _ (op : Operation) (N : Names op) where
   set-good m k ps f g = record {
     named = set-names op N k ps (m .provenance) ∙ rw (g .named);
     apart = set-apart op N k ps (m .provenance) (g .apart);
-    filled = set-held op N Filled k ps (m .provenance) f (g .filled);
+    filled = set-held op Filled k ps (m .provenance) f (g .filled);
   }
 
   -- adding keeps a mapping good
@@ -63,7 +63,7 @@ module _ (op : Operation) (N : Names op) where
   add-good m k p g =
       by-option (get op k (m .provenance))
       (λ h. rw h (rw h at (set-good m k (p ∷ []) tt g)))
-      (λ ps h. let old : Filled ps = get-held op N Filled k ps (m .provenance) (g .filled) h in
+      (λ ps h. let old : Filled ps = get-held op Filled k ps (m .provenance) (g .filled) h in
       rw h (rw h at (set-good m k (include op p ps) (one-of Filled (_among_ op p ps) old (filled-last ps p)) g)))
 
   module _ (S : Path) where

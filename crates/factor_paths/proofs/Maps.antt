@@ -25,6 +25,20 @@ unfoldable pub Apart : Operation → {A : Type 0} → List (Entry A) → Type 0
 Apart op [] = Unit {0}
 Apart op (e ∷ es) = (get op (e .name) es ≡ none) × Apart op es
 
+module _ (op : Operation) {A : Type 0} (Q : A → Type 0) where
+  -- setting what is so keeps all that a map holds so
+  pub set-held : (k : Name) (a : A) (es : List (Entry A)) → Q a → Held Q es → Held Q (set op k a es)
+  unfolding set Held
+  set-held k a [] q h = (q, tt)
+  set-held k a (e ∷ es) q h = one-of (Held Q) (op .sameName (e .name) k) (q, h .1) (h .0, set-held k a es q (h .1))
+
+  -- what is got from a map that holds only such is such
+  pub get-held : (k : Name) (a : A) (es : List (Entry A)) → Held Q es → get op k es ≡ some a → Q a
+  unfolding get Held
+  get-held k a [] h g = absurd (let z : _≡_ {A = ℕ} 0 1 = cc in omega arith)
+  get-held k a (e ∷ es) h g =
+      by-test (op .sameName (e .name) k) (λ t. rw (Option·some-injective _ _ (rw t at g)) at (h .0)) (λ t. get-held k a es (h .1) (rw t at g))
+
 module _ (op : Operation) (N : Names op) where
   module _ {A : Type 0} where
     -- what is got depends on the name only up to sameName
@@ -60,19 +74,6 @@ module _ (op : Operation) (N : Names op) where
     set-apart k a (e ∷ es) h =
         by-test (op .sameName (e .name) k) (λ g. rw g h)
         (λ g. rw g (get-set (e .name) k a es ∙ rw (turned N k (e .name), g) (h .0), set-apart k a es (h .1)))
-
-    -- setting what is so keeps all that a map holds so
-    pub set-held : (Q : A → Type 0) (k : Name) (a : A) (es : List (Entry A)) → Q a → Held Q es → Held Q (set op k a es)
-    unfolding set Held
-    set-held Q k a [] q h = (q, tt)
-    set-held Q k a (e ∷ es) q h = one-of (Held Q) (op .sameName (e .name) k) (q, h .1) (h .0, set-held Q k a es q (h .1))
-
-    -- what is got from a map that holds only such is such
-    pub get-held : (Q : A → Type 0) (k : Name) (a : A) (es : List (Entry A)) → Held Q es → get op k es ≡ some a → Q a
-    unfolding get Held
-    get-held Q k a [] h g = absurd (let z : _≡_ {A = ℕ} 0 1 = cc in omega arith)
-    get-held Q k a (e ∷ es) h g =
-        by-test (op .sameName (e .name) k) (λ t. rw (Option·some-injective _ _ (rw t at g)) at (h .0)) (λ t. get-held Q k a es (h .1) (rw t at g))
 
   -- the same path is among the same
   pub among-same : (p q : Path) (ps : List Path) → equal op p q ≡ true → _among_ op p ps ≡ _among_ op q ps

@@ -3,11 +3,12 @@ use mathlib.Core.Path.{_≡_, refl, sym, ap, subst, _∙_}
 use mathlib.Core.List.{List, [], _∷_}
 use mathlib.Core.Bool.{Bool, true, false, _||_, cond}
 use Prim.Native.Nat.{ℕ, _+_, _≤_}
+use native.Mathlib.Nat.{le-refl}
 use native.Mathlib.Omega.{arith}
 use lib.Dec.{eqb}
-use borrow.Author.Tests.{eqb-true}
+use borrow.Author.Tests.{eqb-true, le-leb}
 use Rattle.records.specs.Record.{Record, Records, leaf, node, nil, _▸_, isLeaf}
-use Rattle.records.specs.Kinds.{Place, kinds, seq, option, stands, rowOf, Content, bytes, these, any, atMostOne, contentAt}
+use Rattle.records.specs.Kinds.{Place, one, kinds, seq, option, stands, rowOf, Content, bytes, these, any, atMostOne, contentAt}
 use Rattle.records.proofs.Fits.{Fits, FitsAll}
 use Rattle.records.proofs.Run.{Run, in-run, within}
 use Rattle.records.proofs.Leaves.{these-no-bytes}
@@ -66,3 +67,9 @@ option-node (leaf k b) p f = absurd (let z : _≡_ {A = ℕ} 0 1 = (let e : atMo
 option-node (node k nil) p f = (nil, ap (λ (j : ℕ). node j nil) (eqb-true k 0x02 (f .0)), tt)
 option-node (node k (r ▸ nil)) p f = (r ▸ nil, ap (λ (j : ℕ). node j (r ▸ nil)) (eqb-true k 0x02 (f .0)), (f .1 .0, tt))
 option-node (node k (r ▸ s ▸ c)) p f = absurd (f .1 .1)
+
+-- what follows from a record at each of several kinds follows from it at a place for all of them
+pub by-kind : {X : Type 0} (from n : ℕ) (r : Record) → Run (λ k. Fits r (one k) → X) from n → Fits r (kinds from (from + n)) → X
+unfolding Fits contentAt
+by-kind {X} from n (leaf k b) h f = in-run (λ j. Fits (leaf k b) (one j) → X) from n h k (f .0) (rw (le-leb k k (le-refl k)), f .1)
+by-kind {X} from n (node k c) h f = in-run (λ j. Fits (node k c) (one j) → X) from n h k (f .0) (rw (le-leb k k (le-refl k)), f .1)

@@ -8,13 +8,14 @@ use lib.ListN.{length, length-append}
 use lib.Dec.{ltb, lit<}
 use borrow.Author.Tests.{ltb-true}
 use Rattle.wire.specs.Numbers.{Bytes}
-use Rattle.records.specs.Record.{Record, Records, leaf, node, nil, _▸_, _▸▸_, isLeaf, encode, encodeAll}
+use Rattle.records.specs.Record.{Record, Records, leaf, node, nil, _▸_, _▸▸_, mapAll, isLeaf, encode, encodeAll}
 use Rattle.records.specs.Kinds.{Place, Content, bytes, these, any, atMostOne, contentAt}
 use Rattle.records.proofs.Fits.{Fits, FitsAll}
 use Rattle.records.proofs.Tree.{Canonical, CanonicalAll, record-length}
 use Rattle.records.proofs.Step.{ofBytes, content-leaf}
 use Rattle.records.proofs.Closed.{Of, OfAll, holdsAt, closed, fits-of}
 use Rattle.records.proofs.Leaves.{no-records}
+use Rattle.records.proofs.ByRow.{by-seq}
 use Rattle.records.proofs.Hereditary.{Hereditary}
 
 -- a leaf has a leaf's kind and a node another, and each kind is under 65536
@@ -42,6 +43,11 @@ pub append-shaped : (c d : Records) → ShapedAll c → ShapedAll d → ShapedAl
 unfolding Shaped _▸▸_
 append-shaped nil d g h = h
 append-shaped (r ▸ c) d g h = (g .0, append-shaped c d (g .1) h)
+
+-- records made of records that fit a place are shaped, if each is
+pub map-shaped : (p : Place) (g : Record → Record) → ((r : Record) → Fits r p → Shaped (g r)) → (c : Records) → FitsAll c (any p) → ShapedAll (mapAll g c)
+unfolding Shaped mapAll
+map-shaped p g each = by-seq (λ r. Shaped (g r)) (λ c. ShapedAll (mapAll g c)) p each tt (λ r c h hs. (h, hs))
 
 -- the kinds of two bytes
 abbrev pub small : ℕ → Bool

@@ -7,3 +7,4 @@ pub mod Wraps
 pub mod Walks
 pub mod Modules
 pub mod Uses
+pub mod Shapes

@@ -28,6 +28,18 @@ abbrev pub isSound : Verdict → Bool
 isSound Sound = true
 isSound (Refused a) = false
 
+-- 1, 2 and 3, then 4 to 7
+module _ (op : Operation) (card root : Bytes) (words : ℕ) where
+  abbrev pub goodRoot : Bool
+  goodRoot = leb (length root) (op .mostRootBytes) && isSound (reading (op .rootDepth) path root)
+
+  unfoldable pub admitted : Verdict
+  admitted =
+      let read : Verdict = reading (op .cardDepth) (op .outermost) card in
+      cond (ltb words (op .fewestWords)) (Refused ShortWork)
+      (cond (ltb (op .mostCardBytes) (length card)) (Refused LongCard)
+      (cond (not goodRoot) (Refused BadRoot) read))
+
 module _ (op : Operation) (card root out : Bytes) (work : List ℕ) where
   -- the out buffer is left, and the work words are left or zero
   abbrev pub refusal : Answer → Outcome
@@ -54,17 +66,9 @@ module _ (op : Operation) (card root out : Bytes) (work : List ℕ) where
       whether (fullTable op (op .mostPairs (length work)) (deep (tree card)) (tree card) (MSel (tree root) (nameOf (tree card))) 0)
       written (λ place. lateRefusal (FullTable place))
 
-  -- 4 to 7, and then 8
   abbrev pub afterReading : Verdict → Outcome
   afterReading (Refused a) = refusal a
   afterReading Sound = shortened
 
-  abbrev pub goodRoot : Bool
-  goodRoot = leb (length root) (op .mostRootBytes) && isSound (reading (op .rootDepth) path root)
-
   unfoldable pub shorten : Outcome
-  shorten =
-      let read : Outcome = afterReading (reading (op .cardDepth) (op .outermost) card) in
-      cond (ltb (length work) (op .fewestWords)) (refusal ShortWork)
-      (cond (ltb (op .mostCardBytes) (length card)) (refusal LongCard)
-      (cond (not goodRoot) (refusal BadRoot) read))
+  shorten = afterReading (admitted op card root (length work))

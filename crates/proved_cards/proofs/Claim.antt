@@ -17,9 +17,9 @@ use Rattle.factor_paths.specs.Mapping.{get, set, _among_, Add, ToFinalReplaceme
 use Rattle.factor_paths.specs.PathsVisitor.{VisitTypeSingle, VisitExprSingle, VisitTraitName, VisitModDeclSingle}
 use Rattle.factor_paths.specs.Apply.{replaces, ReplaceTypeSingle, ReplaceExprSingle, PathSimplifier, mappings, pathsToRemove, imports, applyPrefix, apply}
 use Rattle.outcome.specs.FullTable.{firstIn, fullTable}
-use Rattle.outcome.specs.Outcome.{Outcome, shorten}
+use Rattle.outcome.specs.Outcome.{Outcome, admitted, shorten}
 use Rattle.proved_cards.specs.Cards.{ProvedCard, provedCards, seen, stated}
 
 pub proved-cards : (map seen provedCards ≡ map stated provedCards) × (map (λ p. length (p .card)) provedCards ≡ map (λ p. p .long) provedCards)
-unfolding provedCards le num sameBytes deep encode parse nth tree setNth _▸▸_ count skip first FoldLeft mapAll rowOf contentAt read reading samePath Mod·Fold Fold Replace VisitType VisitTypeParams VisitFields VisitFn VisitMember VisitBody VisitImplMapping VisitUse VisitTopFn VisitTraitDecl VisitStructMapping VisitModMapping VisitMod ReplaceType ReplaceExpr ReplaceFields ReplaceTypeParams ReplaceFn ReplaceImplMember ReplaceBody ReplaceUse ReplaceTopFn ReplaceTrait ReplaceImplDecl ReplaceEnumCase ReplaceEnum ReplaceConst ReplaceTypeDecl ReplaceStruct ReplaceModDecl ReplaceMod get set _among_ Add ToFinalReplacement ToUseStatements pairs VisitTypeSingle VisitExprSingle VisitTraitName VisitModDeclSingle replaces ReplaceTypeSingle ReplaceExprSingle PathSimplifier mappings pathsToRemove imports applyPrefix apply firstIn fullTable shorten
+unfolding provedCards le num sameBytes deep encode parse nth tree setNth _▸▸_ count skip first FoldLeft mapAll rowOf contentAt read reading samePath Mod·Fold Fold Replace VisitType VisitTypeParams VisitFields VisitFn VisitMember VisitBody VisitImplMapping VisitUse VisitTopFn VisitTraitDecl VisitStructMapping VisitModMapping VisitMod ReplaceType ReplaceExpr ReplaceFields ReplaceTypeParams ReplaceFn ReplaceImplMember ReplaceBody ReplaceUse ReplaceTopFn ReplaceTrait ReplaceImplDecl ReplaceEnumCase ReplaceEnum ReplaceConst ReplaceTypeDecl ReplaceStruct ReplaceModDecl ReplaceMod get set _among_ Add ToFinalReplacement ToUseStatements pairs VisitTypeSingle VisitExprSingle VisitTraitName VisitModDeclSingle replaces ReplaceTypeSingle ReplaceExprSingle PathSimplifier mappings pathsToRemove imports applyPrefix apply firstIn fullTable admitted shorten
 proved-cards = (refl, refl)

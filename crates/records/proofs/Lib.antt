@@ -10,3 +10,4 @@ pub mod Leaves
 pub mod ByRow
 pub mod Hereditary
 pub mod Shape
+pub mod Faults

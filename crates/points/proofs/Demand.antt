@@ -1,0 +1,56 @@
+-- Demand 3, whole, of the definitions. Assumes nothing.
+use mathlib.Core.Path.{_≡_, refl, ap, ap₂, sym, subst, _∙_}
+use mathlib.Core.List.{List, _++_}
+use Prim.Native.Nat.{ℕ, _*_, _^_, _≤_, _<_}
+use native.Mathlib.Nat.{le-refl}
+use native.Mathlib.Omega.{arith}
+use lib.ListN.{length, take, drop}
+use lib.Seq.{take-append-seam}
+use Rattle.answers.specs.declared.Answer.the-variants.{Shortened}
+use Rattle.answers.specs.declared.Verdict.the-variants.{Sound}
+use Rattle.wire.specs.Numbers.{Bytes, AreBytes}
+use Rattle.records.specs.Record.{Record, encode, tree, deep}
+use Rattle.records.specs.Kinds.{path, mod′}
+use Rattle.records.specs.Reading.{reading}
+use Rattle.records.proofs.Fits.{Fits}
+use Rattle.records.proofs.Sound.{ReadsAs, sound-reads}
+use Rattle.records.proofs.Shape.{fits-shaped}
+use Rattle.rast.specs.Path.{Path}
+use Rattle.rast.specs.Operation.{Operation, upstream}
+use Rattle.rast.proofs.Names.{Names, upstream-names}
+use Rattle.factor_paths.specs.Apply.{apply}
+use Rattle.factor_paths.proofs.Uses.{Marks, upstream-marks}
+use Rattle.factor_paths.proofs.Shapes.{selected-shaped, apply-read}
+use Rattle.outcome.specs.Outcome.{shorten, output}
+use Rattle.outcome.proofs.Accepted.{Accepted, accepted}
+use Rattle.points.specs.Points.{Point, outside, NamesHold, Demand3}
+use Rattle.points.proofs.Modules.{module-point}
+
+-- of the tree of a module, under a root: every point of what apply makes of it
+pub apply-point : (op : Operation) → Names op → Marks op → (root : Path) (m : Record) → Fits m mod′ → Point op (outside op root) m (apply op root m)
+unfolding apply
+apply-point op N alike root m f = module-point op N alike (deep m) (outside op root) m f (le-refl (deep m))
+
+-- of the bytes of a card and a root that are sound, if what is put out is not too long to be read back
+pub names-hold : (card root : Bytes) → AreBytes card → AreBytes root → reading 48 mod′ card ≡ Sound → reading 8 path root ≡ Sound → length (encode (apply upstream (tree root) (tree card))) < 2 ^ 32 →
+    NamesHold upstream card root (encode (apply upstream (tree root) (tree card)))
+names-hold card root b c s r short =
+    let h : ReadsAs 48 mod′ card (tree card) = sound-reads 48 mod′ card b s in
+    let g : ReadsAs 8 path root (tree root) = sound-reads 8 path root c r in
+    let e : tree (encode (apply upstream (tree root) (tree card))) ≡ apply upstream (tree root) (tree card) =
+    apply-read upstream selected-shaped (tree root) (tree card) (h .fits) (fits-shaped (tree root) path refl (g .fits)) short in
+    record {
+      card-tree = h .encoded;
+      root-tree = g .encoded;
+      output-tree = ap encode e;
+      defined = refl;
+      points = rw e (apply-point upstream upstream-names upstream-marks (tree root) (tree card) (h .fits));
+    }
+
+-- DEMAND 3, of whatever is lent, if no output is longer than 42 times its card
+pub demand-3 : ((card root : Bytes) → AreBytes card → reading 48 mod′ card ≡ Sound → length (encode (apply upstream (tree root) (tree card))) ≤ 42 * length card) → Demand3 upstream
+demand-3 bound card root out work n b c h =
+    let a : Accepted upstream card root out work n = accepted upstream card root out work n h in
+    let o : Bytes = encode (apply upstream (tree root) (tree card)) in
+    let e : take n (shorten upstream card root out work .out) ≡ o = ap₂ take (a .long) (a .out-is) ∙ take-append-seam o (drop (length o) out) in
+    subst (λ (x : Bytes). NamesHold upstream card root x) (sym e) (names-hold card root b c (a .card-sound) (a .root-sound) (let l = a .card-length in omega (arith, bound card root b (a .card-sound))))

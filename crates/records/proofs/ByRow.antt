@@ -8,7 +8,7 @@ use native.Mathlib.Omega.{arith}
 use lib.Dec.{eqb}
 use borrow.Author.Tests.{eqb-true, le-leb}
 use Rattle.records.specs.Record.{Record, Records, leaf, node, nil, _▸_, isLeaf}
-use Rattle.records.specs.Kinds.{Place, one, kinds, seq, option, stands, rowOf, Content, bytes, these, any, atMostOne, contentAt}
+use Rattle.records.specs.Kinds.{Place, one, kinds, name, seq, option, stands, rowOf, Content, bytes, these, any, atMostOne, contentAt}
 use Rattle.records.proofs.Fits.{Fits, FitsAll}
 use Rattle.records.proofs.Run.{Run, in-run, within}
 use Rattle.records.proofs.Leaves.{these-no-bytes}
@@ -36,6 +36,14 @@ no-leaf k h = go (eqb k 0x01) (eqb k 0x03) refl refl
         let e : k ≡ 3 = eqb-true k 0x03 q in
         absurd (omega arith)
     go false false p q = refl
+
+-- where a kind from 4 on stands, it holds its row
+pub row-content : (p : Place) (k : ℕ) → 4 ≤ k → stands p k ≡ true → contentAt p k ≡ these (rowOf k)
+unfolding contentAt
+row-content (kinds from to) k h s = rw (no-leaf k h)
+row-content name k h s = absurd (omega (arith, eqb-true k 0x01 s))
+row-content (seq p) k h s = absurd (omega (arith, eqb-true k 0x02 s))
+row-content (option p) k h s = absurd (omega (arith, eqb-true k 0x02 s))
 
 -- at a place for kinds from 4 on
 abbrev pub Kinds : (Record → Type 0) → ℕ → Type 0

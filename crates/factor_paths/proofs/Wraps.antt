@@ -106,7 +106,7 @@ module _ (f g ft : Record → Record) where
     types-alone (r ▸ c) o = ap₂ _▸_ (type-alone r (o .0)) (types-alone c (o .1))
 
 -- paths are left, by Replace and by the walk
-path-role : (k : ℕ) → stands path k ≡ true → role k ≡ other
+pub path-role : (k : ℕ) → stands path k ≡ true → role k ≡ other
 path-role = in-run (λ k. role k ≡ other) 0x10 3 (refl ⨾ refl ⨾ refl ⨾ refl)
 
 path-step : (k : ℕ) → stands path k ≡ true → stepOf k ≡ left

@@ -1,3 +1,5 @@
 pub mod Sizes
 pub mod Walked
 pub mod Declared
+pub mod Visited
+pub mod Mapped

@@ -113,6 +113,13 @@ unfolding deep
 most true w b n h = omega arith
 most false w b n h = h
 
+-- what holds of a path that selects a name, and of any other, holds of what a path type or a path expression holds
+pub by-path : (P : Records → Type 0) (c : Records) → PathIn c → ((b : Path) (n : Name) → c ≡ MSel b n ▸ nil → P (MSel b n ▸ nil)) → ((p : Path) → is 0x13 p ≡ false → P (p ▸ nil)) → P c
+by-path P c i f g =
+    by-test (is 0x13 (i .held))
+    (λ e. let same = i .only ∙ ap (λ p. p ▸ nil) (i .spelled e) in subst P (sym same) (f _ _ same))
+    (λ e. subst P (sym (i .only)) (g (i .held) e))
+
 module _ (op : Operation) (rep : FinalReplacement) where
   synonyms-size : (n : Name) (w : ℕ) (t : Record) → size (synonyms n w t) ≡ w * (18 + length n) + size t
   unfolding synonyms size
@@ -148,13 +155,6 @@ module _ (op : Operation) (rep : FinalReplacement) where
 
   abbrev FineAll : Records → Records → Type 0
   FineAll c d = sizeAll d + chargeAll c ≤ 42 * sizeAll c
-
-  -- a path type and a path expression, whatever path they hold
-  by-path : (P : Records → Type 0) (c : Records) → PathIn c → ((b : Path) (n : Name) → c ≡ MSel b n ▸ nil → P (MSel b n ▸ nil)) → ((p : Path) → is 0x13 p ≡ false → P (p ▸ nil)) → P c
-  by-path P c i f g =
-      by-test (is 0x13 (i .held))
-      (λ e. let same = i .only ∙ ap (λ p. p ▸ nil) (i .spelled e) in subst P (sym same) (f _ _ same))
-      (λ e. subst P (sym (i .only)) (g (i .held) e))
 
   type-fine : (a : Bool) (w : ℕ) (c : Records) → PathIn c → Room a w (node 0x2D c) → Fine a w (node 0x2D c)
   unfolding walk charge size wrap nth

@@ -24,7 +24,8 @@ module _ (op : Operation) where
       (cond (_among_ op SelfPath ps) (some SelfPath)
       (cond (_among_ op «dafny_runtime» ps) (some «dafny_runtime») none))
 
-  final-chosen : (S : Path) (e : Entry (List Path)) (others : FinalReplacement) → final op S e others ≡ whether (chosen S (e .held)) others (λ q. entry (e .name) q ∷ others)
+  -- the entry of a name that has a path chosen, before the others
+  pub final-chosen : (S : Path) (e : Entry (List Path)) (others : FinalReplacement) → final op S e others ≡ whether (chosen S (e .held)) others (λ q. entry (e .name) q ∷ others)
   unfolding chosen
   final-chosen S e others =
       by-test (eqb (length (e .held)) 1) (λ h. rw h)

@@ -1,28 +1,26 @@
 -- The uses that a module's mapping gives are no larger than what the module's paths are charged. Assumes nothing.
-use mathlib.Core.Path.{_≡_, refl, sym, ap, ap₂, subst, _∙_}
+use mathlib.Core.Path.{_≡_, refl, sym, ap₂, _∙_}
 use mathlib.Core.List.{List, [], _∷_, _++_}
-use mathlib.Core.Bool.{Bool, true, false, _||_, _&&_, cond, false≢true, and-eq-true-iff}
-use mathlib.Core.Option.{Option, none, some, Option·some-injective}
-use Prim.Native.Nat.{ℕ, zero, suc, _+_, _≤_, _-_}
+use mathlib.Core.Bool.{true, false, cond, false≢true, and-eq-true-iff, or-true, or-false}
+use mathlib.Core.Option.{none, some, Option·some-injective}
+use Prim.Native.Nat.{ℕ, suc, _+_, _≤_, _-_}
 use native.Mathlib.Omega.{arith}
-use lib.ListN.{length, take, length-take}
+use lib.ListN.{length, length-take}
 use lib.Dec.{eqb}
-use borrow.Author.Tests.{eqb-true}
+use borrow.Author.Tests.{eqb-true, ne-eqb}
 use Rattle.wire.specs.Numbers.{sameBytes}
 use Rattle.wire.proofs.Numbers.{sameBytes-true}
-use Rattle.records.specs.Record.{Record, Records, leaf, node, nil, _▸_, nth, is}
+use Rattle.records.specs.Record.{Record, Records, leaf, node, nil, _▸_, nth}
 use Rattle.rast.specs.Path.{Name, Path, MSel, Self, Selected, selected, whether, samePath, sameParts, «dafny_runtime»}
 use Rattle.rast.specs.Operation.{upstream}
 use Rattle.rast.proofs.Names.{upstream-names, turned, paths}
 use Rattle.rast.proofs.Tests.{by-test, by-option, one-of}
-use Rattle.factor_paths.specs.Mapping.{Entry, entry, Provenance, Mapping, noMapping, FinalReplacement, equal, get, set, _among_, include, Add, ToFinalReplacement, ToUseStatements, useDecl}
+use Rattle.factor_paths.specs.Mapping.{Entry, entry, Provenance, Mapping, noMapping, FinalReplacement, equal, get, set, _among_, include, Add, ToFinalReplacement, ToUseStatements}
 use Rattle.factor_paths.specs.PathsVisitor.{marked, unmarked, VisitTypeSingle, VisitExprSingle, VisitModDeclSingle, PathsVisitor}
 use Rattle.factor_paths.specs.Apply.{mappings, pathsToRemove, imports}
 use Rattle.factor_paths.proofs.Maps.{namesOf, Apart}
-use Rattle.factor_paths.proofs.Mappings.{Good}
 use Rattle.factor_paths.proofs.Visits.{declaration-keeps, mappings-good}
-use Rattle.factor_paths.proofs.Final.{chosen, get-final}
-use Rattle.factor_paths.proofs.Tidy.{PathIn}
+use Rattle.factor_paths.proofs.Final.{chosen, final-chosen, get-final}
 use Rattle.factor_paths.proofs.Modules.{ModFields}
 use Rattle.size.proofs.Sizes.{size, sizeAll}
 use Rattle.size.proofs.Walked.{pathed, chargeAll, by-path}
@@ -82,3 +80,106 @@ module _ (S : Path) where
       (λ g. rw g (set-size k (p ∷ []) (useSize k p) (m .provenance) (rw g (omega arith))))
       (λ ps g. rw g (set-size k (include upstream p ps) (useSize k p) (m .provenance)
       (rw g (one-of (λ qs. basesSize k qs ≤ basesSize k ps + useSize k p) (_among_ upstream p ps) (omega arith) (let i = bases-last k p ps in omega arith)))))
+
+  use-most : (n : Name) (p : Path) → useSize n p ≤ 19 + size (MSel p n)
+  unfolding useSize
+  use-most n p = one-of (λ x. x ≤ 19 + size (MSel p n)) (equal upstream p S) (omega arith) (omega arith)
+
+  -- what is added for a path type or a path expression that selects a name, the name perhaps shortened
+  selected-adds : (j : ℕ) → ((k : ℕ) → eqb k j ≡ true → pathed k ≡ true) → (name : Selected → Name) → ((s : Selected) → length (name s) ≤ length (s .name))
+      → Single mappingSize (λ m r. whether (selected j r) m (λ s. cond (equal upstream (s .base) Self) m (Add upstream m (name s) (s .base))))
+  unfolding nth size
+  selected-adds j path name short k c i acc m h =
+      by-test (eqb k j)
+      (λ e. rw (path k e)
+      (by-path (λ c. mappingSize (whether (selected j (node k c)) acc (λ s. cond (equal upstream (s .base) Self) acc (Add upstream acc (name s) (s .base)))) ≤ m + (19 + sizeAll c)) c (i (path k e))
+      (λ b n same. let s : Selected = record { base = b; name = n } in
+      let a = add-size (name s) b acc in
+      let u = use-most (name s) b in
+      let l = short s in
+      rw e (one-of (λ acc. mappingSize acc ≤ m + (19 + sizeAll (MSel b n ▸ nil))) (equal upstream b Self) (omega arith) (omega arith)))
+      (λ p f. rw (e, f) (omega arith))))
+      (λ e. rw e (omega arith))
+
+  type-single : Single mappingSize (VisitTypeSingle upstream)
+  unfolding VisitTypeSingle
+  type-single = selected-adds 0x2D (λ k e. rw e) (λ s. s .name) (λ s. omega arith)
+
+  expr-single : Single mappingSize (VisitExprSingle upstream)
+  unfolding VisitExprSingle
+  expr-single =
+      selected-adds 0x5C (λ k e. rw e (or-true (eqb k 0x2D))) (λ s. cond (marked (s .name)) (unmarked (s .name)) (s .name))
+      (λ s. shorter (s .name))
+    where
+      shorter : (n : Name) → length (cond (marked n) (unmarked n) n) ≤ length n
+      shorter n = let l = length-take (length n - 1) n in one-of (λ m. length m ≤ length n) (marked n) {x = unmarked n} {y = n} (omega arith) (omega arith)
+
+  -- a declaration's own name is added with SelfPath
+  declaration-adds : (d : Record) → Adds mappingSize (λ acc. VisitModDeclSingle upstream acc d S) 0
+  unfolding useSize
+  declaration-adds d acc m h =
+      let i = declaration-keeps upstream (λ o a. mappingSize a ≤ m) S
+      (λ o a k l. let j : mappingSize (Add upstream a k S) ≤ mappingSize a + 0 = rw (paths upstream-names .reflexive S) at (add-size k S a) in omega arith) acc acc d h in
+      omega arith
+
+  -- a module's mapping is no larger than what its paths are charged
+  mapping-size : (m : Record) (h : ModFields m) → mappingSize (mappings upstream m S) ≤ chargeAll (h .body)
+  unfolding mappings usesSize
+  mapping-size m h =
+      let i = VisitMod-adds mappingSize (PathsVisitor upstream) type-single expr-single S declaration-adds m h noMapping 0 (omega arith) in
+      omega arith
+
+  -- a path that is chosen is among a name's paths, if it is not SelfPath
+  chosen-among : (ps : List Path) (q : Path) → chosen upstream S ps ≡ some q → equal upstream q S ≡ false → _among_ upstream q ps ≡ true
+  unfolding chosen _among_
+  chosen-among [] q h n = cc
+  chosen-among (p ∷ []) q h n = rw (Option·some-injective _ _ h, or-false (equal upstream q q)) (paths upstream-names .reflexive q)
+  chosen-among (p ∷ r ∷ ps) q h n =
+      let qs : List Path = p ∷ r ∷ ps in
+      by-test (_among_ upstream S qs)
+      (λ t. let i = rw (ne-eqb (suc (suc (length ps))) 1 (omega arith), t) at h in
+      absurd (false≢true (sym n ∙ rw (← Option·some-injective _ _ i) (paths upstream-names .reflexive S))))
+      (λ t. by-test (_among_ upstream «dafny_runtime» qs)
+      (λ u. let i = rw (ne-eqb (suc (suc (length ps))) 1 (omega arith), t, u) at h in rw (← Option·some-injective _ _ i) u)
+      (λ u. let i = rw (ne-eqb (suc (suc (length ps))) 1 (omega arith), t, u) at h in cc))
+
+  among-size : (n : Name) (q : Path) (ps : List Path) → _among_ upstream q ps ≡ true → equal upstream q S ≡ false → 19 + size (MSel q n) ≤ basesSize n ps
+  unfolding basesSize useSize _among_
+  among-size n q [] h s = absurd (false≢true h)
+  among-size n q (p ∷ ps) h s =
+      by-test (equal upstream q p)
+      (λ t. rw (← same-equal q p t, s) (omega arith))
+      (λ t. let i = among-size n q ps (rw t at h) s in omega arith)
+
+  -- a name that is not one of a map's names does not change their uses
+  uses-apart : (n : Name) (q : Path) (r : FinalReplacement) {A : Type 0} (es : List (Entry A)) → get upstream n es ≡ none
+      → ToUseStatements upstream (namesOf es) (entry n q ∷ r) S ≡ ToUseStatements upstream (namesOf es) r S
+  unfolding ToUseStatements get
+  uses-apart n q r [] h = refl
+  uses-apart n q r (e ∷ es) h =
+      by-test (sameBytes (e .name) n)
+      (λ t. let i = rw t at h in cc)
+      (λ t. rw (turned upstream-names n (e .name), t, uses-apart n q r es (rw t at h)))
+
+  uses-size : (es : Provenance) → Apart upstream es → sizeAll (ToUseStatements upstream (namesOf es) (ToFinalReplacement upstream es S) S) ≤ usesSize es
+  unfolding ToUseStatements ToFinalReplacement Apart usesSize get size
+  uses-size [] a = omega arith
+  uses-size (e ∷ es) a =
+      let n = e .name in
+      let others = ToFinalReplacement upstream es S in
+      let rest = uses-size es (a .1) in
+      rw (final-chosen upstream S e others)
+      (by-option (chosen upstream S (e .held))
+      (λ c. rw (c, get-final upstream upstream-names n es S (a .1), a .0) (omega arith))
+      (λ q c. rw (c, upstream-names .reflexive n, uses-apart n q others es (a .0))
+      (by-test (equal upstream q S) (λ s. rw s (omega arith))
+      (λ s. let i = among-size n q (e .held) (chosen-among (e .held) q c s) s in rw s (omega arith)))))
+
+-- the uses put ahead of a module are no larger than what its paths are charged
+pub imports-size : (m : Record) (h : ModFields m) (S : Path) → sizeAll (imports upstream m S) ≤ chargeAll (h .body)
+unfolding imports pathsToRemove
+imports-size m h S =
+    let good = mappings-good upstream upstream-names m S in
+    let a = uses-size S (mappings upstream m S .provenance) (good .apart) in
+    let b = mapping-size S m h in
+    rw (← good .named) (omega arith)

@@ -3,3 +3,4 @@ pub mod Walked
 pub mod Declared
 pub mod Visited
 pub mod Mapped
+pub mod Bound

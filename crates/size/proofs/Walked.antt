@@ -54,6 +54,7 @@ counts aFn = false
 counts left = false
 counts holds = false
 
+-- how often a type in a record of that step is wrapped
 abbrev pub within : Step → Bool → ℕ → ℕ
 within s a w = deeper (counts s && a) w
 

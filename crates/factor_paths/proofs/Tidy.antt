@@ -1,16 +1,17 @@
 -- What a tree that fits a place says to the walks: its path types and path expressions hold one path, and which kinds lie in types, expressions and declarations. Assumes nothing.
-use mathlib.Core.Path.{_≡_, refl, ap, ap₂, sym, subst, _∙_}
-use mathlib.Core.List.{List, [], _∷_}
-use mathlib.Core.Bool.{Bool, true, false, not, _&&_, _||_, cond, false≢true}
-use Prim.Native.Nat.{ℕ}
-use lib.Dec.{eqb, leb}
+use mathlib.Core.Path.{_≡_, refl, ap, sym, subst, _∙_}
+use mathlib.Core.List.{[], _∷_}
+use mathlib.Core.Bool.{Bool, true, false, not, _&&_, _||_}
+use Prim.Native.Nat.{ℕ, _≤_}
+use lib.Dec.{eqb, leb, lit≤}
 use borrow.Author.Tests.{eqb-true}
-use Rattle.records.specs.Record.{Record, Records, leaf, node, nil, _▸_, kind, text, children, nth, field, is, isLeaf}
-use Rattle.records.specs.Kinds.{Place, kinds, name, seq, option, stands, path, type, expr, one, Content, bytes, these, any, atMostOne, rowOf, contentAt}
+use Rattle.records.specs.Record.{Record, Records, leaf, node, nil, _▸_, kind, text, children, nth, field, is}
+use Rattle.records.specs.Kinds.{Place, kinds, name, stands, path, type, expr, Content, bytes, these, any, atMostOne, rowOf, contentAt}
 use Rattle.records.proofs.Fits.{Fits, FitsAll}
-use Rattle.records.proofs.Leaves.{name-right, NodeAt, node-at, these-no-bytes}
-use Rattle.records.proofs.Closed.{Of, OfAll, holdsAt, closed, fits-of}
-use Rattle.rast.specs.Path.{Path, MSel}
+use Rattle.records.proofs.Leaves.{fits-stands, name-right, NodeAt, node-at, these-no-bytes}
+use Rattle.records.proofs.ByRow.{row-content}
+use Rattle.records.proofs.Closed.{closed}
+use Rattle.rast.specs.Path.{MSel}
 
 -- the kinds that lie in types and formals; in these and expressions; and in declarations that are no modules
 abbrev pub typeKind : ℕ → Bool
@@ -60,36 +61,23 @@ spelled-path r f e =
     two (r ▸ s ▸ nil) f = ap (λ u. r ▸ u ▸ nil) (sym (name-right s (f .1 .0)))
     two (r ▸ s ▸ t ▸ c) f = absurd (f .1 .1)
 
-path-kind : (r : Record) → Fits r path → stands path (kind r) ≡ true
-unfolding Fits
-path-kind (leaf k b) f = f .0
-path-kind (node k c) f = f .0
-
 path-in : (c : Records) → FitsAll c (these (path ∷ [])) → PathIn c
 unfolding FitsAll
 path-in nil f = absurd f
-path-in (r ▸ nil) f = record { held = r; only = refl; stands-path = path-kind r (f .0); spelled = spelled-path r (f .0) }
+path-in (r ▸ nil) f = record { held = r; only = refl; stands-path = fits-stands r path (f .0); spelled = spelled-path r (f .0) }
 path-in (r ▸ s ▸ c) f = absurd (f .1)
 
 -- the places at which a kind that is 2D or 5C stands hold its row
 path-row : (p : Place) (k : ℕ) → eqb k 0x2D || eqb k 0x5C ≡ true → stands p k ≡ true → contentAt p k ≡ these (path ∷ [])
-unfolding contentAt rowOf
-path-row p k e s = go (eqb k 0x2D) (eqb k 0x5C) refl refl e
+unfolding rowOf
+path-row p k e s = go (eqb k 0x2D) refl e
   where
-    at : (p : Place) (k₀ : ℕ) → isLeaf k₀ ≡ false → eqb k₀ 0x01 ≡ false → eqb k₀ 0x02 ≡ false → rowOf k₀ ≡ path ∷ [] → stands p k₀ ≡ true → contentAt p k₀ ≡ these (path ∷ [])
-    at (kinds from to) k₀ l a b r s = rw (l, r)
-    at name k₀ l a b r s = absurd (false≢true (sym a ∙ s))
-    at (seq p) k₀ l a b r s = absurd (false≢true (sym b ∙ s))
-    at (option p) k₀ l a b r s = absurd (false≢true (sym b ∙ s))
+    at : (k₀ : ℕ) → 4 ≤ k₀ → rowOf k₀ ≡ path ∷ [] → k ≡ k₀ → contentAt p k ≡ these (path ∷ [])
+    at k₀ h r same = rw same (row-content p k₀ h (rw same at s) ∙ ap these r)
 
-    go : (t u : Bool) → eqb k 0x2D ≡ t → eqb k 0x5C ≡ u → t || u ≡ true → contentAt p k ≡ these (path ∷ [])
-    go true u a b e =
-        let same : k ≡ 0x2D = eqb-true k 0x2D a in
-        rw same (at p 0x2D refl refl refl refl (rw same at s))
-    go false true a b e =
-        let same : k ≡ 0x5C = eqb-true k 0x5C b in
-        rw same (at p 0x5C refl refl refl refl (rw same at s))
-    go false false a b e = absurd (false≢true e)
+    go : (t : Bool) → eqb k 0x2D ≡ t → t || eqb k 0x5C ≡ true → contentAt p k ≡ these (path ∷ [])
+    go true a e = at 0x2D (lit≤ tt) refl (eqb-true k 0x2D a)
+    go false a e = at 0x5C (lit≤ tt) refl (eqb-true k 0x5C e)
 
 mutual
   unfolding Fits FitsAll Paths

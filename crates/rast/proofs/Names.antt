@@ -1,8 +1,9 @@
 -- Comparing paths is an equivalence where comparing names is. Assumes nothing.
-use mathlib.Core.Path.{_≡_, refl, sym, _∙_}
-use mathlib.Core.Bool.{Bool, true, and-eq-true-iff}
+use mathlib.Core.Path.{_≡_, refl, sym, ap₂, _∙_}
+use mathlib.Core.Bool.{Bool, true, and-eq-true-iff, false≢true}
 use lib.Dec.{eqb}
 use borrow.Author.Tests.{eqb-true, eq-eqb}
+use Rattle.wire.specs.Numbers.{sameBytes}
 use Rattle.wire.proofs.Numbers.{sameBytes-self, sameBytes-true}
 use Rattle.records.specs.Record.{Records, leaf, node, nil, _▸_}
 use Rattle.rast.specs.Path.{Name, Path, samePath, sameParts, MSel}
@@ -106,3 +107,19 @@ upstream-names = record {
   symmetric = λ a b h. rw (sameBytes-true a b h) (sameBytes-self b);
   transitive = λ a b c g h. rw (sameBytes-true a b g) h;
 }
+
+mutual
+  unfolding samePath
+
+  -- paths that are the same upstream are equal
+  pub same-equal : (p q : Path) → samePath sameBytes p q ≡ true → p ≡ q
+  same-equal (leaf k b) (leaf j d) h = let i = and-eq-true-iff _ _ .0 h in ap₂ leaf (eqb-true k j (i .0)) (sameBytes-true b d (i .1))
+  same-equal (leaf k b) (node j d) h = absurd (false≢true h)
+  same-equal (node k c) (leaf j d) h = absurd (false≢true h)
+  same-equal (node k c) (node j d) h = let i = and-eq-true-iff _ _ .0 h in ap₂ node (eqb-true k j (i .0)) (same-parts c d (i .1))
+
+  same-parts : (c d : Records) → sameParts sameBytes c d ≡ true → c ≡ d
+  same-parts nil nil h = refl
+  same-parts nil (s ▸ d) h = absurd (false≢true h)
+  same-parts (r ▸ c) nil h = absurd (false≢true h)
+  same-parts (r ▸ c) (s ▸ d) h = let i = and-eq-true-iff _ _ .0 h in ap₂ _▸_ (same-equal r s (i .0)) (same-parts c d (i .1))

@@ -11,6 +11,12 @@ use Rattle.records.specs.Kinds.{Place, one, name, stands, Content, bytes
 use Rattle.records.proofs.Fits.{Fits, FitsAll}
 use Rattle.records.proofs.Run.{within}
 
+-- the kind of a record that fits a place stands there
+pub fits-stands : (r : Record) (p : Place) → Fits r p → stands p (kind r) ≡ true
+unfolding Fits
+fits-stands (leaf k b) p f = f .0
+fits-stands (node k c) p f = f .0
+
 -- no records fit where bytes are held
 pub no-records : (c : Records) → FitsAll c bytes → ⊥
 unfolding FitsAll

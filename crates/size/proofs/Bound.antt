@@ -4,7 +4,6 @@ use mathlib.Core.List.{[], _∷_}
 use Prim.Native.Nat.{ℕ, zero, suc, _+_, _*_, _^_, _≤_, _<_}
 use native.Mathlib.Omega.{arith}
 use lib.ListN.{length}
-use lib.Dec.{lit≤}
 use Rattle.answers.specs.declared.Verdict.the-variants.{Sound}
 use Rattle.wire.specs.Numbers.{Bytes, AreBytes}
 use Rattle.records.specs.Record.{Record, Records, node, nil, _▸_, children, deep, deepAll, setNth, mapAll, encode, tree, is}
@@ -13,7 +12,7 @@ use Rattle.records.specs.Reading.{reading}
 use Rattle.records.proofs.Fits.{Fits, FitsAll}
 use Rattle.records.proofs.Run.{_⨾_}
 use Rattle.records.proofs.Leaves.{node-at, these-no-bytes}
-use Rattle.records.proofs.ByRow.{by-row, by-kinds, by-seq}
+use Rattle.records.proofs.ByRow.{by-row, by-kind, by-seq}
 use Rattle.records.proofs.Sound.{sound-reads}
 use Rattle.rast.specs.Path.{Path, MSel}
 use Rattle.rast.specs.Operation.{upstream, nested}
@@ -70,12 +69,9 @@ mod-size n grows m S h l =
 
 -- applyPrefix makes a module that is at most 48 deep at most 42 times as large
 pub applied-size : (n : ℕ) (m : Record) (S : Path) → Fits m mod′ → deep m ≤ 48 → size (applyPrefix upstream n m S) ≤ 42 * size m
-unfolding applyPrefix rowOf Fits FitsAll contentAt
-applied-size zero m S h l = omega arith
+applied-size zero m S h l = unfold applyPrefix in omega arith
 applied-size (suc n) m S h l =
-    by-kinds (λ m. deep m ≤ 48 → size (applyPrefix upstream (suc n) m S) ≤ 42 * size m) 0x60 1 (lit≤ tt)
-    ((λ d hd a ha t ht b hb. mod-size n (applied-size n) _ S (mod-fields (node 0x60 (d ▸ a ▸ t ▸ b ▸ nil)) (refl ⨾ hd ⨾ ha ⨾ ht ⨾ hb ⨾ tt)))
-    ⨾ (λ t ht l. rw (extern-walk upstream (suc n) S (node 0x61 (t ▸ nil)) (refl ⨾ ht ⨾ tt)) (omega arith))) m h l
+    by-kind 0x60 1 m ((λ f. mod-size n (applied-size n) m S (mod-fields m f) l) ⨾ (λ f. rw (extern-walk upstream (suc n) S m f) (omega arith))) h
 
 -- THE THEOREM: an output is never longer than 42 times its card
 pub output-bound : (root : Path) (m : Record) → Fits m mod′ → deep m ≤ 48 → length (encode (apply upstream root m)) ≤ 42 * length (encode m)
@@ -83,14 +79,12 @@ unfolding apply
 output-bound root m h l = rw (encode-size (apply upstream root m), encode-size m) (applied-size (deep m) m (MSel root (nameOf m)) h l)
 
 -- and so of a card's bytes that read sound, whatever the root
-pub card-bound : (card root : Bytes) → AreBytes card → reading (upstream .cardDepth) (upstream .outermost) card ≡ Sound
-    → length (encode (apply upstream (tree root) (tree card))) ≤ 42 * length card
-card-bound card root h e =
+pub card-bound : (root : Path) (card : Bytes) → AreBytes card → reading (upstream .cardDepth) (upstream .outermost) card ≡ Sound → length (encode (apply upstream root (tree card))) ≤ 42 * length card
+card-bound root card h e =
     let r = sound-reads (upstream .cardDepth) (upstream .outermost) card h e in
-    let b = output-bound (tree root) (tree card) (r .fits) (r .shallow) in
-    rw (r .encoded) at b
+    rw (r .encoded) at (output-bound root (tree card) (r .fits) (r .shallow))
 
--- so an output's length is held by the four bytes of a record's length
-pub output-small : (card root : Bytes) → AreBytes card → reading (upstream .cardDepth) (upstream .outermost) card ≡ Sound → length card ≤ upstream .mostCardBytes
-    → length (encode (apply upstream (tree root) (tree card))) < 2 ^ 32
-output-small card root h e l = let b = card-bound card root h e in omega arith
+-- so the four bytes of a record's length hold an output's
+pub output-small : (root : Path) (card : Bytes) → AreBytes card → reading (upstream .cardDepth) (upstream .outermost) card ≡ Sound → length card ≤ upstream .mostCardBytes
+    → length (encode (apply upstream root (tree card))) < 2 ^ 32
+output-small root card h e l = let b = card-bound root card h e in omega arith

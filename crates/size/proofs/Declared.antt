@@ -11,19 +11,13 @@ use Rattle.records.specs.Kinds.{Place, kinds, stands, path, type, expr, Content
 use Rattle.records.proofs.Fits.{Fits, FitsAll}
 use Rattle.records.proofs.Run.{_⨾_}
 use Rattle.records.proofs.ByRow.{by-row, by-kinds, row-content}
-use Rattle.records.proofs.Leaves.{one-kind}
+use Rattle.records.proofs.Leaves.{fits-stands, one-kind}
 use Rattle.rast.specs.Operation.{Operation}
 use Rattle.factor_paths.specs.Mapping.{FinalReplacement}
 use Rattle.factor_paths.specs.Walk.{aType, anExpr, aFn, left, holds, stepOf, walk}
 use Rattle.factor_paths.proofs.Tidy.{fits-paths}
 use Rattle.size.proofs.Sizes.{size}
 use Rattle.size.proofs.Walked.{charge, counts, Room, Starts, Fns, FnsAll, space-room, walk-size}
-
--- the kind of a record that fits a place stands there
-fits-stands : (r : Record) (p : Place) → Fits r p → stands p (kind r) ≡ true
-unfolding Fits
-fits-stands (leaf k b) p f = f .0
-fits-stands (node k c) p f = f .0
 
 -- only a Fn is walked as one
 fn-kind : (k : ℕ) → stepOf k ≡ aFn → k ≡ 0x7D

@@ -1,19 +1,19 @@
 -- The uses that a module's mapping gives are no larger than what the module's paths are charged. Assumes nothing.
-use mathlib.Core.Path.{_≡_, refl, sym, ap₂, _∙_}
+use mathlib.Core.Path.{_≡_, refl, sym, _∙_}
 use mathlib.Core.List.{List, [], _∷_, _++_}
-use mathlib.Core.Bool.{true, false, cond, false≢true, and-eq-true-iff, or-true, or-false}
+use mathlib.Core.Bool.{true, false, cond, false≢true, or-true, or-false}
 use mathlib.Core.Option.{none, some, Option·some-injective}
 use Prim.Native.Nat.{ℕ, suc, _+_, _≤_, _-_}
 use native.Mathlib.Omega.{arith}
 use lib.ListN.{length, length-take}
 use lib.Dec.{eqb}
-use borrow.Author.Tests.{eqb-true, ne-eqb}
+use borrow.Author.Tests.{ne-eqb}
 use Rattle.wire.specs.Numbers.{sameBytes}
 use Rattle.wire.proofs.Numbers.{sameBytes-true}
-use Rattle.records.specs.Record.{Record, Records, leaf, node, nil, _▸_, nth}
-use Rattle.rast.specs.Path.{Name, Path, MSel, Self, Selected, selected, whether, samePath, sameParts, «dafny_runtime»}
+use Rattle.records.specs.Record.{Record, node, nil, _▸_, nth}
+use Rattle.rast.specs.Path.{Name, Path, MSel, Self, Selected, selected, whether, «dafny_runtime»}
 use Rattle.rast.specs.Operation.{upstream}
-use Rattle.rast.proofs.Names.{upstream-names, turned, paths}
+use Rattle.rast.proofs.Names.{upstream-names, turned, paths, same-equal}
 use Rattle.rast.proofs.Tests.{by-test, by-option, one-of}
 use Rattle.factor_paths.specs.Mapping.{Entry, entry, Provenance, Mapping, noMapping, FinalReplacement, equal, get, set, _among_, include, Add, ToFinalReplacement, ToUseStatements}
 use Rattle.factor_paths.specs.PathsVisitor.{marked, unmarked, VisitTypeSingle, VisitExprSingle, VisitModDeclSingle, PathsVisitor}
@@ -25,22 +25,6 @@ use Rattle.factor_paths.proofs.Modules.{ModFields}
 use Rattle.size.proofs.Sizes.{size, sizeAll}
 use Rattle.size.proofs.Walked.{pathed, chargeAll, by-path}
 use Rattle.size.proofs.Visited.{Adds, Single, VisitMod-adds}
-
--- paths that are the same upstream are equal
-mutual
-  unfolding samePath
-
-  pub same-equal : (p q : Path) → equal upstream p q ≡ true → p ≡ q
-  same-equal (leaf k b) (leaf j d) h = let i = and-eq-true-iff _ _ .0 h in ap₂ leaf (eqb-true k j (i .0)) (sameBytes-true b d (i .1))
-  same-equal (leaf k b) (node j d) h = absurd (false≢true h)
-  same-equal (node k c) (leaf j d) h = absurd (false≢true h)
-  same-equal (node k c) (node j d) h = let i = and-eq-true-iff _ _ .0 h in ap₂ node (eqb-true k j (i .0)) (same-parts c d (i .1))
-
-  same-parts : (c d : Records) → sameParts sameBytes c d ≡ true → c ≡ d
-  same-parts nil nil h = refl
-  same-parts nil (s ▸ d) h = absurd (false≢true h)
-  same-parts (r ▸ c) nil h = absurd (false≢true h)
-  same-parts (r ▸ c) (s ▸ d) h = let i = and-eq-true-iff _ _ .0 h in ap₂ _▸_ (same-equal r s (i .0)) (same-parts c d (i .1))
 
 module _ (S : Path) where
   -- the size of a name's use from a path; SelfPath gives none

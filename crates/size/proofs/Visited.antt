@@ -64,7 +64,7 @@ module _ {T : Type 0} (μ : T → ℕ) where
       unfolding Fold Of Paths charge
 
       -- a fold over a type or an expression adds at most what its paths are charged
-      pub Fold-adds : (r : Record) → Of termKind r → Paths r → Adds (λ acc. Fold f ft acc r) (charge r)
+      Fold-adds : (r : Record) → Of termKind r → Paths r → Adds (λ acc. Fold f ft acc r) (charge r)
       Fold-adds (leaf k b) o p acc m h = omega arith
       Fold-adds (node k c) o p acc m h = role-adds k c (p .0) (λ b acc m h. parts-add c b (o .1) (p .1) acc m h) (role k) refl (o .0) acc m h
 

@@ -200,8 +200,7 @@ module _ (op : Operation) (rep : FinalReplacement) where
     walk-size (leaf k b) a w p f h = omega arith
     walk-size (node k c) a w p f h = node-fine a w k c (λ v h. walkAll-size c a v (p .1) (f .1) h) (λ e. walkFn-size c 0 (p .1) (f .1) (f .0 e)) h (p .0)
 
-    -- and of records that have space
-    pub walkAll-size : (c : Records) (a : Bool) (w : ℕ) → PathsAll c → FnsAll c → Space a w (deepAll c) → sizeAll (walkAll op rep a w c) + chargeAll c ≤ 42 * sizeAll c
+    walkAll-size : (c : Records) (a : Bool) (w : ℕ) → PathsAll c → FnsAll c → Space a w (deepAll c) → sizeAll (walkAll op rep a w c) + chargeAll c ≤ 42 * sizeAll c
     walkAll-size nil a w p f h = omega arith
     walkAll-size (r ▸ c) a w p f h =
         let i = walk-size r a w (p .0) (f .0) (space-room a w r (space-first a w (deep r) (deepAll c) h)) in

@@ -8,3 +8,4 @@ pub mod Walks
 pub mod Modules
 pub mod Uses
 pub mod Shapes
+pub mod SameBytes

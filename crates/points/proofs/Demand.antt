@@ -1,9 +1,8 @@
 -- Demand 3, whole, of the definitions. Assumes nothing.
 use mathlib.Core.Path.{_≡_, refl, ap, ap₂, sym, subst, _∙_}
 use mathlib.Core.List.{List, _++_}
-use Prim.Native.Nat.{ℕ, _*_, _^_, _≤_, _<_}
+use Prim.Native.Nat.{ℕ, _^_, _<_}
 use native.Mathlib.Nat.{le-refl}
-use native.Mathlib.Omega.{arith}
 use lib.ListN.{length, take, drop}
 use lib.Seq.{take-append-seam}
 use Rattle.answers.specs.declared.Answer.the-variants.{Shortened}
@@ -21,7 +20,8 @@ use Rattle.rast.proofs.Names.{Names, upstream-names}
 use Rattle.factor_paths.specs.Apply.{apply}
 use Rattle.factor_paths.proofs.Uses.{Marks, upstream-marks}
 use Rattle.factor_paths.proofs.Shapes.{selected-shaped, apply-read}
-use Rattle.outcome.specs.Outcome.{shorten, output}
+use Rattle.size.proofs.Bound.{output-small}
+use Rattle.outcome.specs.Outcome.{shorten}
 use Rattle.outcome.proofs.Accepted.{Accepted, accepted}
 use Rattle.points.specs.Points.{Point, outside, NamesHold, Demand3}
 use Rattle.points.proofs.Modules.{module-point}
@@ -47,10 +47,11 @@ names-hold card root b c s r short =
       points = rw e (apply-point upstream upstream-names upstream-marks (tree root) (tree card) (h .fits));
     }
 
--- DEMAND 3, of whatever is lent, if no output is longer than 42 times its card
-pub demand-3 : ((card root : Bytes) → AreBytes card → reading 48 mod′ card ≡ Sound → length (encode (apply upstream (tree root) (tree card))) ≤ 42 * length card) → Demand3 upstream
-demand-3 bound card root out work n b c h =
+-- DEMAND 3, of whatever is lent
+pub demand-3 : Demand3 upstream
+demand-3 card root out work n b c h =
     let a : Accepted upstream card root out work n = accepted upstream card root out work n h in
     let o : Bytes = encode (apply upstream (tree root) (tree card)) in
     let e : take n (shorten upstream card root out work .out) ≡ o = ap₂ take (a .long) (a .out-is) ∙ take-append-seam o (drop (length o) out) in
-    subst (λ (x : Bytes). NamesHold upstream card root x) (sym e) (names-hold card root b c (a .card-sound) (a .root-sound) (let l = a .card-length in omega (arith, bound card root b (a .card-sound))))
+    subst (λ (x : Bytes). NamesHold upstream card root x) (sym e)
+    (names-hold card root b c (a .card-sound) (a .root-sound) (output-small (tree root) card b (a .card-sound) (a .card-length)))

@@ -9,6 +9,7 @@ use Rattle.records.specs.Record.{Record, Records, leaf, node, nil, _▸_, _▸�
 use Rattle.records.specs.Kinds.{Place, kinds, one, stands, mod′, any, rowOf, contentAt}
 use Rattle.records.proofs.Fits.{Fits, FitsAll}
 use Rattle.records.proofs.Run.{within, _⨾_}
+use Rattle.records.proofs.Leaves.{fits-stands}
 use Rattle.records.proofs.ByRow.{by-kinds}
 use Rattle.records.proofs.Closed.{Of, holdsAt, fits-of}
 use Rattle.rast.specs.Path.{Name, Path}
@@ -55,11 +56,6 @@ pub narrow : (r : Record) (from to from′ to′ : ℕ) → Fits r (kinds from t
 unfolding Fits contentAt
 narrow (leaf k b) from to from′ to′ f e = (e, f .1)
 narrow (node k c) from to from′ to′ f e = (e, f .1)
-
-fits-stands : (r : Record) (p : Place) → Fits r p → stands p (kind r) ≡ true
-unfolding Fits
-fits-stands (leaf k b) p f = f .0
-fits-stands (node k c) p f = f .0
 
 -- a record of one kind among some, and one of the others
 at-one : (r : Record) (k to : ℕ) → Fits r (kinds k to) → is k r ≡ true → Fits r (one k)

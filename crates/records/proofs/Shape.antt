@@ -12,7 +12,8 @@ use Rattle.records.specs.Record.{Record, Records, leaf, node, nil, _▸_
 use Rattle.records.specs.Kinds.{Place, Content, bytes, these, any, atMostOne, contentAt}
 use Rattle.records.proofs.Fits.{Fits, FitsAll}
 use Rattle.records.proofs.Tree.{Canonical, CanonicalAll, record-length}
-use Rattle.records.proofs.Step.{ofBytes, content-leaf}
+use Rattle.records.proofs.Step.{content-leaf}
+use Rattle.records.specs.Kinds.{ofBytes}
 use Rattle.records.proofs.Closed.{Of, OfAll, holdsAt, closed, fits-of}
 use Rattle.records.proofs.Leaves.{no-records}
 use Rattle.records.proofs.ByRow.{by-seq}

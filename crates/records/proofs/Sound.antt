@@ -12,7 +12,8 @@ use Rattle.records.specs.Kinds.{Place, stands, Content, bytes, these, an
 use Rattle.records.specs.Reading.{Next, done, leftOver, record-at, next, short, read, reading}
 use Rattle.records.proofs.Fits.{Fits, FitsAll}
 use Rattle.records.proofs.Tree.{long-enough, content-length, rest-length, content-bytes, rest-bytes, kind-small, length-small, record-split, parse-step, parse-nil, Canonical, CanonicalAll}
-use Rattle.records.proofs.Step.{ofBytes, ofBytes-true, content-leaf, next-done, next-more, Next-sound, read-stepped, read-leftOver}
+use Rattle.records.proofs.Step.{ofBytes-true, content-leaf, next-done, next-more, Next-sound, read-stepped, read-leftOver}
+use Rattle.records.specs.Kinds.{ofBytes}
 
 -- no records fit where nothing comes next
 pub done-fits : (c : Content) (s : Bytes) → ofBytes c ≡ false → next c s ≡ done → FitsAll nil c

@@ -12,7 +12,7 @@ use Rattle.answers.specs.declared.Verdict.{Verdict}
 use Rattle.answers.specs.declared.Verdict.the-variants.{Sound, Refused}
 use Rattle.wire.specs.Numbers.{Bytes}
 use Rattle.records.specs.Record.{isLeaf, lengthOf, kindOf, contentOf, restOf}
-use Rattle.records.specs.Kinds.{Place, kinds, name, seq, option, stands, Content, bytes, these, any, atMostOne, contentAt, rowOf}
+use Rattle.records.specs.Kinds.{Place, kinds, name, seq, option, stands, Content, bytes, these, any, atMostOne, ofBytes, contentAt, rowOf}
 use Rattle.records.specs.Reading.{done, leftOver, record-at, next, short, andThen, step, read}
 
 -- two verdicts one after the other are sound if both are
@@ -51,13 +51,6 @@ stepped-step p more limit depth at s content rest h = rw (h .long, h .standing, 
 -- bytes that are left over are not sound
 pub step-leftOver : (limit depth at : ℕ) (s : Bytes) (content rest : Content → Verdict) → step leftOver limit depth at s content rest ≡ Sound → ⊥
 step-leftOver limit depth at s content rest h = let z : _≡_ {A = ℕ} 0 1 = cc in omega arith
-
--- a content is bytes, and no records
-abbrev pub ofBytes : Content → Bool
-ofBytes bytes = true
-ofBytes (these ps) = false
-ofBytes (any p) = false
-ofBytes (atMostOne p) = false
 
 -- a content that is bytes
 pub ofBytes-true : (c : Content) → ofBytes c ≡ true → c ≡ bytes

@@ -1,6 +1,6 @@
 -- 01, Leaf 1, and the datatypes of Dafny-compiler-rust-rast.dfy: one row of child places for each kind. Assumes nothing: these are definitions.
 use mathlib.Core.List.{List, [], _∷_}
-use mathlib.Core.Bool.{Bool, _&&_, cond}
+use mathlib.Core.Bool.{Bool, true, false, _&&_, cond}
 use Prim.Native.Nat.{ℕ}
 use lib.Dec.{eqb, leb}
 use Rattle.records.specs.Record.{isLeaf}
@@ -165,6 +165,13 @@ pub data Content : Type 0 where
   bytes : Content
   these : List Place → Content
   any atMostOne : Place → Content
+
+-- a content is bytes, and no records
+abbrev pub ofBytes : Content → Bool
+ofBytes bytes = true
+ofBytes (these ps) = false
+ofBytes (any p) = false
+ofBytes (atMostOne p) = false
 
 -- the content of a record of kind k that stands at a place
 unfoldable pub contentAt : Place → ℕ → Content

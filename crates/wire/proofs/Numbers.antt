@@ -131,8 +131,11 @@ gathered-past s from w n i p h g =
       small = (let m : 256 ^ (w - i) ≤ 256 ^ (w - (i - 1)) = pow-le-pow-right (zero-lt-suc 255) (let l = g .left in omega arith) in let l = g .small in omega arith);
     }
 
-pub gathered-all : (s : Bytes) (from w n i : ℕ) → i ≤ 0 → Gathered s from w n i → n ≡ num (take w (drop from s))
-gathered-all s from w n i h g = let a : w - i ≡ w = omega arith in let b : from + i ≡ from = omega arith in g .is ∙ ap₂ (λ (x y : ℕ). num (take x (drop y s))) a b
+pub gathered-all : (s : Bytes) (from w n i : ℕ) → i ≤ 0 → Gathered s from w n i → (n ≡ num (take w (drop from s))) × (n < 256 ^ w)
+gathered-all s from w n i h g =
+    let a : w - i ≡ w = omega arith in
+    let b : from + i ≡ from = omega arith in
+    (g .is ∙ ap₂ (λ (x y : ℕ). num (take x (drop y s))) a b, rw a at (g .small))
 
 -- while a byte of four is left, what is gathered fits three
 pub gathered-below : (s : Bytes) (from w n i : ℕ) → w ≤ 4 → 0 < i → Gathered s from w n i → n < 16777216

@@ -1,15 +1,15 @@
--- `wire::number` meets its contract: the loop gathers the bytes from the last to the first. Assumes nothing.
+-- `reader::number` meets its contract: the loop gathers the bytes from the last to the first. Assumes nothing.
 use mathlib.Core.Path.{_≡_}
 use Prim.Native.Nat.{ℕ, _≤_, _<_, _-_, _+_, _^_}
 use native.Mathlib.Nat.{pow-le-pow-right, zero-lt-suc}
 use native.Mathlib.Omega.{arith}
 use borrow.Author.Needs.{needs}
 use Rattle.wire.proofs.Numbers.{Gathered, gathered-none, gathered-byte, gathered-past, gathered-all, gathered-below}
-use Rattle.wire.proofs.number.Statement.{statement}
-use Rattle.wire.proofs.number.Tie as tie
-use Rattle.wire.proofs.number.Reads as reads
-use Rattle.wire.proofs.number.Lts as lts
+use Rattle.reader.proofs.number.Statement.{statement}
+use Rattle.reader.proofs.number.Tie as tie
+use Rattle.reader.proofs.number.Reads as reads
+use Rattle.reader.proofs.number.Lts as lts
 use Rattle.wire.proofs.wide.Reads as wide-reads
 
 abbrev Inv-loop : tie.InvT-loop
 Inv-loop s from w n₀ i₀ n i = Gathered s from w n i

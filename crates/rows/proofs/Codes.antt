@@ -1,0 +1,254 @@
+-- The laws of the places as numbers. What holds of every row rests on one test over all rows, what holds of every place of one record on one
+-- test over those, and antt computes both. Assumes nothing.
+use mathlib.Core.Path.{_≡_, refl, sym, ap, ap₂, subst, _∙_}
+use mathlib.Core.List.{List, [], _∷_, map}
+use mathlib.Core.Bool.{Bool, true, false, _&&_, cond}
+use Prim.Native.Nat.{ℕ, zero, suc, _+_, _-_, _%_, _<_, _≤_}
+use native.Mathlib.Nat.{add-zero, zero-add, add-suc, suc-add, le-of-suc-le-suc, not-suc-le-zero}
+use native.Mathlib.Omega.{arith}
+use native.Mathlib.Decide.{decLt}
+use lib.ListN.{length, getD, drop, length-map, List·getD-eq-default}
+use lib.Seq.{drop-nil}
+use lib.Dec.{eqb, leb, ltb}
+use borrow.Author.Tests.{eqb-true, ltb-true, leb-true, le-leb, lt-leb}
+use Rattle.records.specs.Record.{isLeaf}
+use Rattle.records.specs.Kinds.{Place, kinds, name, seq, option, one, Row, rows, rowIn, rowOf, mod′, path, bytes, these, any, atMostOne, contentAt}
+use Rattle.records.proofs.Run.{both}
+use Rattle.rows.specs.Codes.{bases, baseOf, placeOf, samePlace, codeOf, codeAt}
+
+-- a test at each element of a list and its place, counted from i; and at the element of a place
+abbrev pub every : {A : Type 0} → (ℕ → A → Bool) → ℕ → List A → Bool
+every f i [] = true
+every f i (x ∷ xs) = f i x && every f (suc i) xs
+
+pub at : {A : Type 0} (f : ℕ → A → Bool) (xs : List A) (i : ℕ) → every f i xs ≡ true → (k : ℕ) (d : A) → k < length xs → f (i + k) (getD xs k d) ≡ true
+at f [] i t k d h = absurd (not-suc-le-zero h)
+at f (x ∷ xs) i t zero d h = rw (add-zero i) (both (f i x) (every f (suc i) xs) t .0)
+at f (x ∷ xs) i t (suc k) d h =
+    subst (λ (m : ℕ). f m (getD xs k d) ≡ true) (suc-add i k ∙ sym (add-suc i k))
+    (at f xs (suc i) (both (f i x) (every f (suc i) xs) t .1) k d (le-of-suc-le-suc h))
+
+-- two places that test the same are the same
+samePlace-true : (p q : Place) → samePlace p q ≡ true → p ≡ q
+samePlace-true (kinds a b) (kinds c d) h = let e = both (eqb a c) (eqb b d) h in ap₂ kinds (eqb-true a c (e .0)) (eqb-true b d (e .1))
+samePlace-true (kinds a b) name h = cc
+samePlace-true (kinds a b) (seq q) h = cc
+samePlace-true (kinds a b) (option q) h = cc
+samePlace-true name (kinds c d) h = cc
+samePlace-true name name h = refl
+samePlace-true name (seq q) h = cc
+samePlace-true name (option q) h = cc
+samePlace-true (seq p) (kinds c d) h = cc
+samePlace-true (seq p) name h = cc
+samePlace-true (seq p) (seq q) h = ap seq (samePlace-true p q h)
+samePlace-true (seq p) (option q) h = cc
+samePlace-true (option p) (kinds c d) h = cc
+samePlace-true (option p) name h = cc
+samePlace-true (option p) (seq q) h = cc
+samePlace-true (option p) (option q) h = ap option (samePlace-true p q h)
+
+-- the test of a row: its kind, how many places it has, and of each that its number leads back to it and is 0, 32 or 64 and then 1 to 26
+rightPlace : Place → Bool
+rightPlace p = samePlace (placeOf (codeOf p)) p && (ltb (codeOf p) 96 && (ltb 0 (codeOf p % 32) && ltb (codeOf p % 32) 27))
+
+rightPlaces : List Place → Bool
+rightPlaces [] = true
+rightPlaces (p ∷ ps) = rightPlace p && rightPlaces ps
+
+rightRow : ℕ → List Place → Bool
+rightRow k ps = ltb k 135 && (leb (length ps) 6 && rightPlaces ps)
+
+rightRows : List Row → Bool
+rightRows [] = true
+rightRows (r ∷ rs) = rightRow (r .kind) (r .places) && rightRows rs
+
+-- so a row has at most six places, a kind from 135 on has none, and each place is right
+record Right (k : ℕ) (ps : List Place) : Type 0 where
+  short : length ps ≤ 6
+  past : 135 ≤ k → ps ≡ []
+  places : rightPlaces ps ≡ true
+
+right-none : (k : ℕ) → Right k []
+unfolding rightPlaces
+right-none k = record { short = omega arith; past = λ h. refl; places = refl }
+
+right-row : (k : ℕ) (ps : List Place) → rightRow k ps ≡ true → Right k ps
+unfolding rightRow
+right-row k ps t =
+    let a = both (ltb k 135) (leb (length ps) 6 && rightPlaces ps) t in
+    let b = both (leb (length ps) 6) (rightPlaces ps) (a .1) in
+    let l = ltb-true k 135 (a .0) in
+    record { short = leb-true (length ps) 6 (b .0); past = λ h. absurd (omega arith); places = b .1 }
+
+right-in : (rs : List Row) → rightRows rs ≡ true → (k : ℕ) → Right k (rowIn rs k)
+unfolding rightRows
+right-in [] t k = right-none k
+right-in (r ∷ rs) t k = let a = both (rightRow (r .kind) (r .places)) (rightRows rs) t in go (eqb k (r .kind)) refl (a .0) (right-in rs (a .1) k)
+  where
+    go : (b : Bool) → eqb k (r .kind) ≡ b → rightRow (r .kind) (r .places) ≡ true → Right k (rowIn rs k) → Right k (cond b (r .places) (rowIn rs k))
+    go true e here there = rw (eqb-true k (r .kind) e) (right-row (r .kind) (r .places) here)
+    go false e here there = there
+
+right : (k : ℕ) → Right k (rowOf k)
+unfolding rowOf rightRows rightRow rightPlaces rightPlace placeOf codeOf
+right k = right-in rows refl k
+
+-- what the number c of a place that occurs is: 0, or 0, 32 or 64 and then 1 to 26
+pub record Number (c : ℕ) : Type 0 where
+  pub below : c < 96
+  pub within : c % 32 < 27
+  pub some : 0 < c → 0 < c % 32
+
+record Coded (p : Place) : Type 0 where
+  is : placeOf (codeOf p) ≡ p
+  number : Number (codeOf p)
+  more : 0 < codeOf p
+
+right-place : (p : Place) → rightPlace p ≡ true → Coded p
+unfolding rightPlace
+right-place p t =
+    let c : ℕ = codeOf p in
+    let a = both (samePlace (placeOf c) p) (ltb c 96 && (ltb 0 (c % 32) && ltb (c % 32) 27)) t in
+    let b = both (ltb c 96) (ltb 0 (c % 32) && ltb (c % 32) 27) (a .1) in
+    let d = both (ltb 0 (c % 32)) (ltb (c % 32) 27) (b .1) in
+    let s : 0 < c % 32 = ltb-true 0 (c % 32) (d .0) in
+    record {
+      is = samePlace-true (placeOf c) p (a .0);
+      number = record { below = ltb-true c 96 (b .0); within = ltb-true (c % 32) 27 (d .1); some = λ h. s };
+      more = omega arith;
+    }
+
+-- the places of a row: no number, no place; a number, its place; and each number is one that occurs
+none-at : (ps : List Place) → rightPlaces ps ≡ true → (j : ℕ) → getD (map codeOf ps) j 0 ≡ 0 → drop j ps ≡ []
+unfolding rightPlaces
+none-at [] t j e = drop-nil j
+none-at (p ∷ ps) t zero e = let m = right-place p (both (rightPlace p) (rightPlaces ps) t .0) .more in absurd (omega arith)
+none-at (p ∷ ps) t (suc j) e = none-at ps (both (rightPlace p) (rightPlaces ps) t .1) j e
+
+some-at : (ps : List Place) → rightPlaces ps ≡ true → (j : ℕ) → (getD (map codeOf ps) j 0 ≡ 0 → ⊥) → drop j ps ≡ placeOf (getD (map codeOf ps) j 0) ∷ drop (suc j) ps
+unfolding rightPlaces
+some-at [] t j n = absurd (n refl)
+some-at (p ∷ ps) t zero n = ap (λ (q : Place). q ∷ ps) (sym (right-place p (both (rightPlace p) (rightPlaces ps) t .0) .is))
+some-at (p ∷ ps) t (suc j) n = some-at ps (both (rightPlace p) (rightPlaces ps) t .1) j n
+
+number-at : (ps : List Place) → rightPlaces ps ≡ true → (j : ℕ) → Number (getD (map codeOf ps) j 0)
+unfolding rightPlaces
+number-at [] t j = record { below = omega arith; within = omega arith; some = omega arith }
+number-at (p ∷ ps) t zero = right-place p (both (rightPlace p) (rightPlaces ps) t .0) .number
+number-at (p ∷ ps) t (suc j) = number-at ps (both (rightPlace p) (rightPlaces ps) t .1) j
+
+-- field j of a record of kind k: no number, no more places; a number, the place that it means
+pub code-none : (k j : ℕ) → codeAt k j ≡ 0 → drop j (rowOf k) ≡ []
+unfolding codeAt
+code-none k j e = none-at (rowOf k) (right k .places) j e
+
+pub code-some : (k j : ℕ) → (codeAt k j ≡ 0 → ⊥) → drop j (rowOf k) ≡ placeOf (codeAt k j) ∷ drop (suc j) (rowOf k)
+unfolding codeAt
+code-some k j n = some-at (rowOf k) (right k .places) j n
+
+pub code-number : (k j : ℕ) → Number (codeAt k j)
+unfolding codeAt
+code-number k j = number-at (rowOf k) (right k .places) j
+
+pub code-below : (k j : ℕ) → codeAt k j < 96
+code-below k j = code-number k j .below
+
+pub code-one : (k j : ℕ) → codeAt k j < 32 → codeAt k j < 27
+code-one k j h = let w = code-number k j .within in omega arith
+
+pub code-seq : (k j : ℕ) → 32 ≤ codeAt k j → codeAt k j < 64 → (0 < codeAt k j - 32) × (codeAt k j - 32 < 27)
+code-seq k j h g =
+    let w = code-number k j .within in
+    let s = code-number k j .some (omega arith) in
+    omega arith
+
+pub code-option : (k j : ℕ) → 64 ≤ codeAt k j → (0 < codeAt k j - 64) × (codeAt k j - 64 < 27)
+code-option k j h =
+    let w = code-number k j .within in
+    let b = code-number k j .below in
+    let s = code-number k j .some (omega arith) in
+    omega arith
+
+-- past the table: no place
+pub code-past : (k j : ℕ) → 135 ≤ k → codeAt k j ≡ 0
+unfolding codeAt
+code-past k j h = rw (right k .past h)
+
+pub code-beyond : (k j : ℕ) → 6 ≤ j → codeAt k j ≡ 0
+unfolding codeAt
+code-beyond k j h =
+    let l = right k .short in
+    let m = length-map (rowOf k) codeOf in
+    List·getD-eq-default (map codeOf (rowOf k)) 0 {n = j} (omega arith)
+
+-- the place that a number means: under 32 of one record, from 32 on a seq, from 64 on an Option
+pub place-one : (c : ℕ) → c < 32 → placeOf c ≡ baseOf c
+unfolding placeOf
+place-one c h = rw (lt-leb 64 c (omega arith), lt-leb 32 c h)
+
+pub base-seq : (c : ℕ) → 32 ≤ c → c < 64 → placeOf c ≡ seq (baseOf (c - 32))
+unfolding placeOf
+base-seq c h g = rw (lt-leb 64 c g, le-leb 32 c h)
+
+pub base-option : (c : ℕ) → 64 ≤ c → placeOf c ≡ option (baseOf (c - 64))
+unfolding placeOf
+base-option c h = rw (le-leb 64 c h)
+
+pub place-seq : (c : ℕ) → 32 ≤ c → c < 64 → placeOf c ≡ seq (placeOf (c - 32))
+place-seq c h g = base-seq c h g ∙ ap seq (sym (place-one (c - 32) (omega arith)))
+
+pub place-option : (c : ℕ) → 64 ≤ c → c < 96 → placeOf c ≡ option (placeOf (c - 64))
+place-option c h g = base-option c h ∙ ap option (sym (place-one (c - 64) (omega arith)))
+
+-- the places of the roots
+pub place-path : placeOf 4 ≡ path
+unfolding placeOf
+place-path = refl
+
+pub place-mod : placeOf 7 ≡ mod′
+unfolding placeOf
+place-mod = refl
+
+-- a place of one record is no seq and no Option, and only place 3 is a Text that a PMemberSelect holds
+abbrev pub oneAt : ℕ → Place → Bool
+oneAt i (kinds from to) = true
+oneAt i name = eqb i 3
+oneAt i (seq p) = false
+oneAt i (option p) = false
+
+-- past the places of one record
+pub base-past : (c : ℕ) → 27 ≤ c → baseOf c ≡ one 0
+base-past c h = List·getD-eq-default bases (one 0) {n = c} h
+
+base-one : (c : ℕ) → oneAt c (baseOf c) ≡ true
+base-one c =
+    elim (decLt c 27) [
+      | yes h ↦ rw (zero-add c) at (at oneAt bases 0 refl c (one 0) h)
+      | no h ↦ ap (oneAt c) (base-past c (omega arith))
+    ]
+
+pub place-is-one : (c : ℕ) → c < 32 → oneAt c (placeOf c) ≡ true
+place-is-one c h = ap (oneAt c) (place-one c h) ∙ base-one c
+
+-- what a record of kind k at a place holds, by the place's number
+pub content-name : (k : ℕ) → contentAt (placeOf 3) k ≡ bytes
+unfolding contentAt placeOf
+content-name k = refl
+
+pub content-one : (c k : ℕ) → c < 32 → (c ≡ 3 → ⊥) → contentAt (placeOf c) k ≡ cond (isLeaf k) bytes (these (rowOf k))
+unfolding contentAt
+content-one c k h n = go (placeOf c) (place-is-one c h)
+  where
+    go : (p : Place) → oneAt c p ≡ true → contentAt p k ≡ cond (isLeaf k) bytes (these (rowOf k))
+    go (kinds from to) t = refl
+    go name t = absurd (n (eqb-true c 3 t))
+    go (seq p) t = cc
+    go (option p) t = cc
+
+pub content-seq : (c k : ℕ) → 32 ≤ c → c < 64 → contentAt (placeOf c) k ≡ any (placeOf (c - 32))
+unfolding contentAt
+content-seq c k h g = rw (place-seq c h g)
+
+pub content-option : (c k : ℕ) → 64 ≤ c → c < 96 → contentAt (placeOf c) k ≡ atMostOne (placeOf (c - 64))
+unfolding contentAt
+content-option c k h g = rw (place-option c h g)

@@ -1,0 +1,5 @@
+pub mod Laws
+pub mod Places
+pub mod Loop
+pub mod Whole
+pub mod Walk

@@ -1,0 +1,55 @@
+-- Reading as the code goes about it: by the depth that is left, and record by record. Assumes nothing: these are definitions.
+use mathlib.Core.List.{List, [], _∷_}
+use mathlib.Core.Bool.{Bool, true, false, not, cond}
+use mathlib.Core.Option.{Option, none, some}
+use Prim.Native.Nat.{ℕ, zero, suc, _+_}
+use lib.ListN.{length, drop}
+use lib.Dec.{eqb}
+use Rattle.answers.specs.declared.Answer.the-variants.{ShortRecord, WrongKind, TooDeep}
+use Rattle.answers.specs.declared.Verdict.{Verdict}
+use Rattle.answers.specs.declared.Verdict.the-variants.{Refused}
+use Rattle.wire.specs.Numbers.{Bytes}
+use Rattle.records.specs.Record.{kindOf, contentOf}
+use Rattle.records.specs.Kinds.{Place, stands, Content, bytes, these, any, atMostOne, contentAt}
+use Rattle.records.specs.Reading.{short, read}
+use Rattle.rast.specs.Path.{whether}
+
+-- the bytes of a content at place at, whose records may go as deep as is left
+unfoldable pub reads : (left : ℕ) → Content → (at : ℕ) → Bytes → Verdict
+reads left c at s = read left (suc (length s)) c 1 at s
+
+-- one record at a place, with its content
+unfoldable pub readsRecord : (left : ℕ) → Place → (at : ℕ) → Bytes → Verdict
+readsRecord zero p at s =
+    cond (short s) (Refused (ShortRecord at))
+    (cond (not (stands p (kindOf s))) (Refused (WrongKind at)) (Refused (TooDeep at)))
+readsRecord (suc left) p at s =
+    cond (short s) (Refused (ShortRecord at))
+    (cond (not (stands p (kindOf s))) (Refused (WrongKind at)) (reads left (contentAt p (kindOf s)) (at + 6) (contentOf s)))
+
+-- what a content asks after j records
+abbrev pub after : Content → ℕ → Content
+after bytes j = bytes
+after (these ps) j = these (drop j ps)
+after (any p) j = any p
+after (atMostOne p) zero = atMostOne p
+after (atMostOne p) (suc j) = these []
+
+-- the place at which record j of a content stands, if one may come
+abbrev pub firstOf : List Place → Option Place
+firstOf [] = none
+firstOf (p ∷ ps) = some p
+
+abbrev pub placeIn : Content → ℕ → Option Place
+placeIn bytes j = none
+placeIn (these ps) j = firstOf (drop j ps)
+placeIn (any p) j = some p
+placeIn (atMostOne p) zero = some p
+placeIn (atMostOne p) (suc j) = none
+
+-- whether a content may end after j records
+abbrev pub mayEnd : Content → ℕ → Bool
+mayEnd bytes j = true
+mayEnd (these ps) j = whether (firstOf (drop j ps)) true (λ p. false)
+mayEnd (any p) j = true
+mayEnd (atMostOne p) j = true

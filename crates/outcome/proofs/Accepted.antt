@@ -68,7 +68,7 @@ module _ (op : Operation) (card root out : Bytes) (work : List ℕ) (n : ℕ) wh
   pub record Passed : Type 0 where
     pub enough : ltb (length work) (op .fewestWords) ≡ false
     pub brief : ltb (op .mostCardBytes) (length card) ≡ false
-    pub rooted : goodRoot op card root (length work) ≡ true
+    pub rooted : goodRoot op root ≡ true
     pub sound : reading (op .cardDepth) (op .outermost) card ≡ Sound
     pub table : fullTable op (op .mostPairs (length work)) (deep (tree card)) (tree card) (MSel (tree root) (nameOf (tree card))) 0 ≡ none
     pub room : ltb (length out) (length (output op card root out work)) ≡ false
@@ -82,11 +82,11 @@ module _ (op : Operation) (card root out : Bytes) (work : List ℕ) (n : ℕ) wh
   passed h =
       by-test (ltb (length work) (op .fewestWords)) (λ a. never ShortWork n (λ z. omega arith) (rw a at h))
       (λ a. by-test (ltb (op .mostCardBytes) (length card)) (λ b. never LongCard n (λ z. omega arith) (rw (a, b) at h))
-      (λ b. by-test (goodRoot op card root (length work))
+      (λ b. by-test (goodRoot op root)
       (λ g. go a b g (reading (op .cardDepth) (op .outermost) card) refl (reading-fair (op .cardDepth) (op .outermost) card) (rw (a, b, g) at h))
       (λ g. never BadRoot n (λ z. omega arith) (rw (a, b, g) at h))))
     where
-      go : ltb (length work) (op .fewestWords) ≡ false → ltb (op .mostCardBytes) (length card) ≡ false → goodRoot op card root (length work) ≡ true →
+      go : ltb (length work) (op .fewestWords) ≡ false → ltb (op .mostCardBytes) (length card) ≡ false → goodRoot op root ≡ true →
           (v : Verdict) → reading (op .cardDepth) (op .outermost) card ≡ v → fair (reading (op .cardDepth) (op .outermost) card) ≡ true → afterReading op card root out work v .answer ≡ Shortened n → Passed
       go a b g (Refused x) e f h = never x n (faulty x (rw e at f)) h
       go a b g Sound e f h =

@@ -28,17 +28,17 @@ abbrev pub isSound : Verdict → Bool
 isSound Sound = true
 isSound (Refused a) = false
 
+abbrev pub goodRoot : Operation → Bytes → Bool
+goodRoot op root = leb (length root) (op .mostRootBytes) && isSound (reading (op .rootDepth) path root)
+
 -- 1, 2 and 3, then 4 to 7
 module _ (op : Operation) (card root : Bytes) (words : ℕ) where
-  abbrev pub goodRoot : Bool
-  goodRoot = leb (length root) (op .mostRootBytes) && isSound (reading (op .rootDepth) path root)
-
   unfoldable pub admitted : Verdict
   admitted =
       let read : Verdict = reading (op .cardDepth) (op .outermost) card in
       cond (ltb words (op .fewestWords)) (Refused ShortWork)
       (cond (ltb (op .mostCardBytes) (length card)) (Refused LongCard)
-      (cond (not goodRoot) (Refused BadRoot) read))
+      (cond (not (goodRoot op root)) (Refused BadRoot) read))
 
 module _ (op : Operation) (card root out : Bytes) (work : List ℕ) where
   -- the out buffer is left, and the work words are left or zero

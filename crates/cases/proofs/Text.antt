@@ -6,17 +6,14 @@ use native.Mathlib.Nat.{min-eq-left, min-eq-right, not-suc-le-zero, le-of-suc-le
 use native.Mathlib.Numerals.{add-one}
 use native.Mathlib.Omega.{arith}
 use lib.ListN.{length, take, drop, getD, set, length-append, length-take, length-drop, length-set, drop-of-length-le}
-use lib.Seq.{drop-cons, drop-drop, append-snoc, set-at, take-all, length-take-le}
+use lib.Seq.{drop-cons, drop-drop, append-snoc, set-at, length-take-le}
 use borrow.Author.Tests.{lt-ltb, le-ltb, le-leb, lt-leb}
 use Rattle.wire.specs.Numbers.{Bytes}
+use Rattle.wire.proofs.Slices.{tail-is}
 use Rattle.cases.specs.Text.{hexValue, hexPair, hexFirst, hexBytes, Decoded, decimalOf}
 
 never : {x : ℕ} {l : Bytes} → [] ≡ x ∷ l → ⊥
 never e = let z : _≡_ {A = ℕ} 0 1 = cc in omega arith
-
--- the part of a slice from n to its end, as the code has it
-pub part-is : (s : Bytes) (n : ℕ) → take (length s - n) (drop n s) ≡ drop n s
-part-is s n = take-all (length s - n) (drop n s) (simp length-drop (omega arith))
 
 -- ---- decimal digits
 
@@ -108,7 +105,7 @@ filled-none s before = record { holds = refl; ahead = refl; said = omega arith; 
 module _ {s before : Bytes} {n : ℕ} {after : Bytes} (f : Filled s before n after) where
   -- what the part from n * 2 on says, as the code has it
   pub said-at : {v : ℕ} → v ≡ hexFirst (take (length s - n * 2) (drop (n * 2) s)) → v ≡ hexFirst (drop (n * 2) s)
-  said-at e = e ∙ ap hexFirst (part-is s (n * 2))
+  said-at e = e ∙ ap hexFirst (tail-is s (n * 2))
 
   said-next : hexFirst (drop (n * 2) s) < 256 → drop n (hexBytes s) ≡ hexFirst (drop (n * 2) s) ∷ hexBytes (drop ((n + 1) * 2) s)
   said-next b =

@@ -4,8 +4,7 @@ use mathlib.Core.Bool.{Bool, true, false, not, cond, false≢true}
 use mathlib.Core.Option.{some}
 use Prim.Native.Nat.{ℕ, zero, suc, _+_, _-_, _<_, _≤_}
 use native.Mathlib.Omega.{arith}
-use lib.ListN.{length, take, drop, length-drop}
-use lib.Seq.{take-all}
+use lib.ListN.{length, take, drop}
 use lib.Dec.{eqb}
 use borrow.Author.Tests.{ne-eqb}
 use Rattle.answers.specs.declared.Answer.{Answer}
@@ -13,6 +12,7 @@ use Rattle.answers.specs.declared.Answer.the-variants.{ShortRecord, WrongKind, 
 use Rattle.answers.specs.declared.Verdict.{Verdict}
 use Rattle.answers.specs.declared.Verdict.the-variants.{Sound, Refused}
 use Rattle.wire.specs.Numbers.{Bytes}
+use Rattle.wire.proofs.Slices.{tail-is}
 use Rattle.records.specs.Record.{lengthOf, kindOf, contentOf}
 use Rattle.records.specs.Kinds.{Place, stands, Content, bytes, these, any, atMostOne, ofBytes, contentAt}
 use Rattle.records.specs.Reading.{short}
@@ -22,13 +22,6 @@ use Rattle.reading.specs.Reads.{reads, readsRecord, placeIn}
 use Rattle.reading.specs.Codes.{codeIn, Valid}
 use Rattle.reading.proofs.Laws.{Turn, turn-start, turn-on, turn-refused, turn-left, turn-end, record-long, reads-done}
 use Rattle.reading.proofs.Places.{place-none, place-some, place-valid, end-row, end-list}
-
--- the bytes from i on, as a slice is taken
-pub tail-is : (s : Bytes) (i : ℕ) → take (length s - i) (drop i s) ≡ drop i s
-tail-is s i = let d : length (drop i s) ≡ length s - i = length-drop i s in take-all (length s - i) (drop i s) (omega arith)
-
-pub tail-length : (s : Bytes) (i : ℕ) → length (take (length s - i) (drop i s)) ≡ length s - i
-tail-length s i = ap length (tail-is s i) ∙ length-drop i s
 
 -- a content of records, i bytes and j records into it
 abbrev pub Loop : (s : Bytes) (c k left at i j : ℕ) → Type 0

@@ -5,7 +5,7 @@ use native.Mathlib.Omega.{arith}
 use lib.ListN.{length, drop-of-length-le}
 use lib.Seq.{drop-length}
 use borrow.Author.Needs.{needs}
-use Rattle.cases.proofs.Text.{part-is}
+use Rattle.wire.proofs.Slices.{tail-is}
 use Rattle.cases.proofs.past.Statement.{statement}
 use Rattle.cases.proofs.past.Tie as tie
 
@@ -22,7 +22,7 @@ part-result-end : tie.Need-part-result-end
 part-result-end c = search needs
 
 returns : tie.Need-returns
-returns c = part-is (c .before .before .args .s .now) (c .before .before .args .e + 1)
+returns c = tail-is (c .before .before .args .s .now) (c .before .before .args .e + 1)
 
 sub-result-2 : tie.Need-sub-result-2
 sub-result-2 c = search needs
@@ -36,7 +36,7 @@ part-result-end-2 c = search needs
 returns-2 : tie.Need-returns-2
 returns-2 c =
     let s = c .before .before .args .s .now in
-    part-is s (length s) ∙ drop-length s ∙ sym (drop-of-length-le s {i = c .before .before .args .e + 1} (omega arith))
+    tail-is s (length s) ∙ drop-length s ∙ sym (drop-of-length-le s {i = c .before .before .args .e + 1} (omega arith))
 
 pub past-spec : {M : Type 1} → statement M
 past-spec =

@@ -1,17 +1,11 @@
 -- `read_cases::lines` is safe and ends: each turn takes at least one byte. Assumes nothing.
-use Prim.Native.Nat.{ℕ, _-_, _≤_}
-use native.Mathlib.Nat.{le-trans, min-le-left}
+use Prim.Native.Nat.{_-_}
 use native.Mathlib.Omega.{arith}
-use lib.ListN.{length, take, drop, length-take}
+use lib.ListN.{length}
 use borrow.Author.Needs.{needs}
-use Rattle.wire.specs.Numbers.{Bytes}
+use Rattle.wire.proofs.Slices.{tail-length}
 use Rattle.read_cases.proofs.lines.Statement.{statement}
 use Rattle.read_cases.proofs.lines.Tie as tie
-
--- what is found in the part from i on is no further than the end
-found-within : (s : Bytes) (i e : ℕ) → e ≤ length (take (length s - i) (drop i s)) → e ≤ length s - i
-found-within s i e h =
-    le-trans h (rw (length-take (length s - i) (drop i s)) (min-le-left (length s - i) (length (drop i s))))
 
 abbrev Inv-loop : tie.InvT-loop
 Inv-loop text i₀ i = Unit {0}
@@ -43,14 +37,12 @@ case-requires c κs = search needs
 add-i : tie.Need-add-i Inv-loop μ-loop
 add-i c =
     let s = c .before .before .before .before .before .before .before .args .text .now in
-    let h = found-within s (c .before .before .before .before .before .loop .i) _ (c .before .before .find .ensures .within) in
-    omega arith
+    omega (arith, tail-length s (c .before .before .before .before .before .loop .i), c .before .before .find .ensures .within)
 
 add-i-2 : tie.Need-add-i-2 Inv-loop μ-loop
 add-i-2 c =
     let s = c .before .before .before .before .before .before .before .args .text .now in
-    let h = found-within s (c .before .before .before .before .before .loop .i) _ (c .before .before .find .ensures .within) in
-    omega arith
+    omega (arith, tail-length s (c .before .before .before .before .before .loop .i), c .before .before .find .ensures .within)
 
 loop-less : tie.Need-loop-less Inv-loop μ-loop
 loop-less c = search needs

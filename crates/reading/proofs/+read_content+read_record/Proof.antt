@@ -4,7 +4,8 @@ use Prim.Native.Nat.{ℕ, _+_, _-_, _*_, _<_}
 use native.Mathlib.Omega.{arith}
 use borrow.Author.Needs.{needs}
 use lib.ListN.{length}
-use Rattle.reading.proofs.Loop.{tail-length, Loop, loop-start, loop-bytes, loop-left, loop-valid, loop-on, loop-refused, loop-list, loop-full, loop-short, record-short, record-wrong, record-deep, record-inside, content-in}
+use Rattle.wire.proofs.Slices.{tail-length}
+use Rattle.reading.proofs.Loop.{Loop, loop-start, loop-bytes, loop-left, loop-valid, loop-on, loop-refused, loop-list, loop-full, loop-short, record-short, record-wrong, record-deep, record-inside, content-in}
 use borrow.Fn.Kinds.{In}
 use borrow.Fn.PlainCycle.{Measures, is, falls, and}
 use Rattle.reading.proofs.read_content.Reads as read-content

@@ -1,0 +1,1 @@
+// A module's mapping as a table of pairs: the theorems stand in proofs/.

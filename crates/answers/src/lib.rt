@@ -1,4 +1,7 @@
 // The answers of document 01, "The console's answers": a case for each row of its table, and acceptance.
+ghost use mathlib.Core.Path.{_≡_};
+ghost use Rattle.answers.specs.Answers.{number as Answers·number, value as Answers·value};
+
 pub enum Answer {
     // with the output's length
     Shortened(usize),
@@ -18,4 +21,40 @@ pub enum Answer {
 pub enum Verdict {
     Sound,
     Refused(Answer),
+}
+
+// The number of an answer in 01's table; 0 is acceptance.
+pub fn number(a: Answer) -> usize
+    ensures { λ r. ⌜ r ≡ Answers·number a ⌝ }
+{
+    match a {
+        Answer::Shortened(_) => 0,
+        Answer::ShortWork => 1,
+        Answer::LongCard => 2,
+        Answer::BadRoot => 3,
+        Answer::ShortRecord(_) => 4,
+        Answer::WrongKind(_) => 5,
+        Answer::TooDeep(_) => 6,
+        Answer::LeftOver(_) => 7,
+        Answer::FullTable(_) => 8,
+        Answer::NoSpace => 9,
+    }
+}
+
+// Its length or place.
+pub fn value(a: Answer) -> usize
+    ensures { λ r. ⌜ r ≡ Answers·value a ⌝ }
+{
+    match a {
+        Answer::Shortened(n) => n,
+        Answer::ShortWork => 0,
+        Answer::LongCard => 0,
+        Answer::BadRoot => 0,
+        Answer::ShortRecord(p) => p,
+        Answer::WrongKind(p) => p,
+        Answer::TooDeep(p) => p,
+        Answer::LeftOver(p) => p,
+        Answer::FullTable(p) => p,
+        Answer::NoSpace => 0,
+    }
 }

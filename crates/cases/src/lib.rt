@@ -1,10 +1,8 @@
 // What a program that reads cases from lines of text is made of: the ends of a line's fields, and what hexadecimal and decimal digits say.
 // Nothing is required: where a digit is none, or there is no room, each function stops there.
-use answers::Answer;
 ghost use mathlib.Core.Path.{_≡_};
 ghost use Prim.Native.Nat.{_+_, _≤_};
 ghost use lib.ListN.{take, drop};
-ghost use Rattle.answers.specs.Answers.{number as Answers·number, value as Answers·value};
 ghost use Rattle.cases.specs.Text.{FirstAt, hexValue, hexFirst, Decoded, decimalOf};
 
 // The place of the first byte b of s: the end of a field or of a line; s's length where it has none.
@@ -118,40 +116,4 @@ pub fn decimal(s: &[u8]) -> usize
         i += 1;
     }
     n
-}
-
-// The number of an answer.
-pub fn number(a: Answer) -> usize
-    ensures { λ r. ⌜ r ≡ Answers·number a ⌝ }
-{
-    match a {
-        Answer::Shortened(_) => 0,
-        Answer::ShortWork => 1,
-        Answer::LongCard => 2,
-        Answer::BadRoot => 3,
-        Answer::ShortRecord(_) => 4,
-        Answer::WrongKind(_) => 5,
-        Answer::TooDeep(_) => 6,
-        Answer::LeftOver(_) => 7,
-        Answer::FullTable(_) => 8,
-        Answer::NoSpace => 9,
-    }
-}
-
-// Its length or place.
-pub fn value(a: Answer) -> usize
-    ensures { λ r. ⌜ r ≡ Answers·value a ⌝ }
-{
-    match a {
-        Answer::Shortened(n) => n,
-        Answer::ShortWork => 0,
-        Answer::LongCard => 0,
-        Answer::BadRoot => 0,
-        Answer::ShortRecord(p) => p,
-        Answer::WrongKind(p) => p,
-        Answer::TooDeep(p) => p,
-        Answer::LeftOver(p) => p,
-        Answer::FullTable(p) => p,
-        Answer::NoSpace => 0,
-    }
 }

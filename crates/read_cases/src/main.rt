@@ -13,9 +13,9 @@ fn say(v: Verdict) {
             io::write_all(STDOUT_FILENO, b"sound\n");
         }
         Verdict::Refused(a) => {
-            io::print_decimal(STDOUT_FILENO, cases::number(a) as u64);
+            io::print_decimal(STDOUT_FILENO, answers::number(a) as u64);
             io::write_all(STDOUT_FILENO, b" ");
-            io::print_decimal(STDOUT_FILENO, cases::value(a) as u64);
+            io::print_decimal(STDOUT_FILENO, answers::value(a) as u64);
             io::write_all(STDOUT_FILENO, b"\n");
         }
     }

@@ -1,6 +1,6 @@
 -- The numbers of places, as the walk meets them. Assumes nothing.
 use mathlib.Core.Path.{_≡_, refl, ap, sym, subst, _∙_}
-use mathlib.Core.List.{[], _∷_}
+use mathlib.Core.List.{List, [], _∷_}
 use mathlib.Core.Bool.{Bool, true, false, _||_, cond, false≢true}
 use mathlib.Core.Option.{Option, none, some}
 use Prim.Native.Nat.{ℕ, zero, suc, _+_, _-_, _<_, _≤_}
@@ -12,7 +12,8 @@ use borrow.Author.Tests.{le-leb, lt-leb, lt-ltb, le-ltb, ne-eqb}
 use Rattle.records.specs.Record.{isLeaf}
 use Rattle.records.specs.Kinds.{Place, Content, bytes, these, any, atMostOne, ofBytes, rowOf, contentAt}
 use Rattle.rast.proofs.Tests.{by-test}
-use Rattle.rows.specs.Codes.{placeOf, codeAt}
+use Rattle.rows.specs.Codes.{placeOf, codeAt, table, codeFrom}
+use Rattle.rows.proofs.Tables.{code-from}
 use Rattle.rows.proofs.Codes.{code-none, code-some, code-below, code-seq, code-option, content-name, content-one, content-seq, content-option}
 use Rattle.reading.specs.Reads.{firstOf, placeIn, mayEnd}
 use Rattle.reading.specs.Codes.{codeIn, Valid}
@@ -122,3 +123,7 @@ bytes-text c k h e l = sym (ap isLeaf l) ∙ bytes-one c k h e
 
 pub bytes-other : (c k : ℕ) → c < 32 → (c ≡ 3 → ⊥) → (k ≡ 1 → ⊥) → eqb k 3 ≡ ofBytes (contentAt (placeOf c) k)
 bytes-other c k h e l = sym (ap (λ (t : Bool). t || eqb k 3) (ne-eqb k 1 l)) ∙ bytes-one c k h e
+
+-- what is read in the table of rows is what the rows say
+pub read-code : (t : List ℕ) (x k j : ℕ) → t ≡ table → x ≡ codeFrom t k j → x ≡ codeAt k j
+read-code t x k j e r = r ∙ ap (λ (y : List ℕ). codeFrom y k j) e ∙ code-from k j

@@ -6,12 +6,14 @@ ghost use Prim.Native.Nat.{_+_, _^_, _<_};
 ghost use lib.ListN.{length};
 ghost use Rattle.records.specs.Kinds.{contentAt, ofBytes, mod′, path};
 ghost use Rattle.records.specs.Reading.{reading};
-ghost use Rattle.rows.specs.Codes.{placeOf};
+ghost use Rattle.rows.specs.Codes.{placeOf, table};
 ghost use Rattle.reading.specs.Reads.{reads, readsRecord};
 ghost use Rattle.reading.specs.Codes.{codeIn, Valid};
 
-// The place of record j in the content of a record of kind k that stands at place c; 0 where no more may come.
-fn place_in(c: usize, k: usize, j: usize) -> usize
+// The place of record j in the content of a record of kind k that stands at place c; 0 where no more may come. Here and below, t is the
+// table of rows.
+fn place_in(c: usize, k: usize, j: usize, t: &[u8]) -> usize
+    requires { ⌜ now t ≡ table ⌝ }
     ensures { λ r. ⌜ r ≡ codeIn c k j ⌝ }
 {
     if 64 <= c {
@@ -23,7 +25,7 @@ fn place_in(c: usize, k: usize, j: usize) -> usize
     if 32 <= c {
         return c - 32;
     }
-    rows::place_at(k, j)
+    rows::place_at(t, k, j)
 }
 
 // Whether a record of kind k that stands at place c holds bytes.
@@ -44,8 +46,8 @@ fn holds_bytes(c: usize, k: usize) -> bool
 }
 
 // The content s of a record of kind k that stands at place c. It stands at place at of the card, and its records may go left deep.
-fn read_content(s: &[u8], c: usize, k: usize, left: usize, at: usize) -> Verdict
-    requires { ⌜ (Valid c) × (at + length (now s) < 2 ^ 64) ⌝ }
+fn read_content(s: &[u8], c: usize, k: usize, left: usize, at: usize, t: &[u8]) -> Verdict
+    requires { ⌜ (Valid c) × (at + length (now s) < 2 ^ 64) × (now t ≡ table) ⌝ }
     ensures { λ r. ⌜ r ≡ reads left (contentAt (placeOf c) k) at (now (s .entry)) ⌝ }
 {
     if holds_bytes(c, k) {
@@ -54,12 +56,12 @@ fn read_content(s: &[u8], c: usize, k: usize, left: usize, at: usize) -> Verdict
     let mut i = 0;
     let mut j = 0;
     while i < s.len() {
-        let p = place_in(c, k, j);
+        let p = place_in(c, k, j, t);
         if p == 0 {
             return Verdict::Refused(Answer::LeftOver(at + i));
         }
         let n = reader::record_length(&s[i..]);
-        let v = read_record(&s[i..], p, left, at + i);
+        let v = read_record(&s[i..], p, left, at + i, t);
         match v {
             Verdict::Sound => {
                 i += 4 + n;
@@ -73,15 +75,15 @@ fn read_content(s: &[u8], c: usize, k: usize, left: usize, at: usize) -> Verdict
     if 32 <= c {
         return Verdict::Sound;
     }
-    if rows::place_at(k, j) == 0 {
+    if rows::place_at(t, k, j) == 0 {
         return Verdict::Sound;
     }
     Verdict::Refused(Answer::ShortRecord(at + i))
 }
 
 // One record at place p, with its content.
-fn read_record(s: &[u8], p: usize, left: usize, at: usize) -> Verdict
-    requires { ⌜ (Valid p) × (at + length (now s) < 2 ^ 64) ⌝ }
+fn read_record(s: &[u8], p: usize, left: usize, at: usize, t: &[u8]) -> Verdict
+    requires { ⌜ (Valid p) × (at + length (now s) < 2 ^ 64) × (now t ≡ table) ⌝ }
     ensures { λ r. ⌜ r ≡ readsRecord left (placeOf p) at (now (s .entry)) ⌝ }
 {
     if reader::is_short(s) {
@@ -94,7 +96,7 @@ fn read_record(s: &[u8], p: usize, left: usize, at: usize) -> Verdict
     if left == 0 {
         return Verdict::Refused(Answer::TooDeep(at));
     }
-    read_content(reader::content(s), p, k, left - 1, at + 6)
+    read_content(reader::content(s), p, k, left - 1, at + 6, t)
 }
 
 // Exactly one record at place p, at most limit deep.
@@ -102,7 +104,8 @@ fn read_one(s: &[u8], p: usize, limit: usize) -> Verdict
     requires { ⌜ Valid p ⌝ }
     ensures { λ r. ⌜ r ≡ reading limit (placeOf p) (now (s .entry)) ⌝ }
 {
-    let v = read_record(s, p, limit, 0);
+    let t = rows::table();
+    let v = read_record(s, p, limit, 0, &t);
     match v {
         Verdict::Sound => {}
         Verdict::Refused(a) => {

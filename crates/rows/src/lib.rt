@@ -2,7 +2,7 @@
 // 32 more a seq of it, 64 more an Option of it.
 ghost use mathlib.Core.Path.{_≡_};
 ghost use Rattle.records.specs.Kinds.{stands};
-ghost use Rattle.rows.specs.Codes.{placeOf, codeAt};
+ghost use Rattle.rows.specs.Codes.{placeOf, codeFrom, table as Codes·table};
 
 // Six places for each kind from 0 to 0x86.
 const ROWS: [u8; 810] = [
@@ -879,13 +879,23 @@ const LAST: [u8; 27] = [
     134,
 ];
 
-// The place of field j of a record of kind k; 0 where it has no such field.
-pub fn place_at(k: usize, j: usize) -> usize
-    ensures { λ r. ⌜ r ≡ codeAt k j ⌝ }
+// The rows, for a walk to make once and lend on: a constant that is read in place is written out anew each time.
+pub fn table() -> [u8; 810]
+    ensures { λ r. ⌜ r ≡ Codes·table ⌝ }
+{
+    ROWS
+}
+
+// The place of field j of a record of kind k, by a table of rows; 0 where it has no such field.
+pub fn place_at(t: &[u8], k: usize, j: usize) -> usize
+    ensures { λ r. ⌜ r ≡ codeFrom (now (t .entry)) k j ⌝ }
 {
     if k < 135 {
         if j < 6 {
-            return wire::wide(ROWS[k * 6 + j]);
+            let i = k * 6 + j;
+            if i < t.len() {
+                return wire::wide(t[i]);
+            }
         }
     }
     0

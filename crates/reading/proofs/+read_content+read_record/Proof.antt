@@ -5,6 +5,7 @@ use native.Mathlib.Omega.{arith}
 use borrow.Author.Needs.{needs}
 use lib.ListN.{length}
 use Rattle.wire.proofs.Slices.{tail-length}
+use Rattle.reading.proofs.Places.{read-code}
 use Rattle.reading.proofs.Loop.{Loop, loop-start, loop-bytes, loop-left, loop-valid, loop-on, loop-refused, loop-list, loop-full, loop-short, record-short, record-wrong, record-deep, record-inside, content-in}
 use borrow.Fn.Kinds.{In}
 use borrow.Fn.PlainCycle.{Measures, is, falls, and}
@@ -25,39 +26,39 @@ use Rattle.rows.proofs.place_at.Reads as place-at-reads
 use Rattle.reading.proofs.+read_content+read_record.{statement}
 use Rattle.reading.proofs.+read_content+read_record.Tie.{close}
 
-abbrev μ-read-content : Measures 1 read-content-kinds.ps ℕ
+abbrev μ-read-content : Measures 2 read-content-kinds.ps ℕ
 μ-read-content κs a = 2 * a .1 .1 .1 .0 + 1
 
-abbrev μ-read-record : Measures 1 read-record-kinds.ps ℕ
+abbrev μ-read-record : Measures 2 read-record-kinds.ps ℕ
 μ-read-record κs a = 2 * a .1 .1 .0
 
-abbrev read-content-at : ℕ → In 1 read-content-kinds.ps
+abbrev read-content-at : ℕ → In 2 read-content-kinds.ps
 read-content-at t =
-    and 1 read-content-kinds.ps (is 1 read-content-kinds.ps μ-read-content t) read-content.Pre
+    and 2 read-content-kinds.ps (is 2 read-content-kinds.ps μ-read-content t) read-content.Pre
 
-abbrev read-content-below : ℕ → In 1 read-content-kinds.ps
+abbrev read-content-below : ℕ → In 2 read-content-kinds.ps
 read-content-below t =
     and
-    1
+    2
     read-content-kinds.ps
-    (falls 1 read-content-kinds.ps _<_ μ-read-content t)
+    (falls 2 read-content-kinds.ps _<_ μ-read-content t)
     read-content.Pre
 
-abbrev read-record-at : ℕ → In 1 read-record-kinds.ps
+abbrev read-record-at : ℕ → In 2 read-record-kinds.ps
 read-record-at t =
-    and 1 read-record-kinds.ps (is 1 read-record-kinds.ps μ-read-record t) read-record.Pre
+    and 2 read-record-kinds.ps (is 2 read-record-kinds.ps μ-read-record t) read-record.Pre
 
-abbrev read-record-below : ℕ → In 1 read-record-kinds.ps
+abbrev read-record-below : ℕ → In 2 read-record-kinds.ps
 read-record-below t =
-    and 1 read-record-kinds.ps (falls 1 read-record-kinds.ps _<_ μ-read-record t) read-record.Pre
+    and 2 read-record-kinds.ps (falls 2 read-record-kinds.ps _<_ μ-read-record t) read-record.Pre
 
 abbrev read-content-Inv-loop : read-content-lts.InvT-loop
-read-content-Inv-loop s c k left at i₀ j₀ i j = Loop s c k left at i j
+read-content-Inv-loop s c k left at t i₀ j₀ i j = Loop s c k left at i j
 
 abbrev read-content-μ-loop : read-content-lts.MeasureT-loop
-read-content-μ-loop s c k left at i₀ j₀ i j = length s - i
+read-content-μ-loop s c k left at t i₀ j₀ i j = length s - i
 
--- src/lib.rt:51:8
+-- src/lib.rt:53:8
 read-content-holds-bytes-requires : (t : ℕ) → read-content-lts.Need-holds-bytes-requires (
   holds-bytes-reads.Asked,
   holds-bytes-reads.Learnt,
@@ -70,9 +71,9 @@ read-content-holds-bytes-requires : (t : ℕ) → read-content-lts.Need-holds-by
   place-at-reads.Asked,
   place-at-reads.Learnt,
 ) (read-content-at t) read-content.Post read-content-Inv-loop read-content-μ-loop
-read-content-holds-bytes-requires t c κs = c .before .pre .1 .0
+read-content-holds-bytes-requires t c κs = c .before .before .pre .1 .0
 
--- src/lib.rt:52:9
+-- src/lib.rt:54:9
 read-content-returns : (t : ℕ) → read-content-lts.Need-returns (
   holds-bytes-reads.Asked,
   holds-bytes-reads.Learnt,
@@ -87,7 +88,7 @@ read-content-returns : (t : ℕ) → read-content-lts.Need-returns (
 ) (read-content-at t) read-content.Post read-content-Inv-loop read-content-μ-loop
 read-content-returns t c = loop-bytes _ _ _ _ _ _ (c .before .holds-bytes .ensures) (c .if1 .taken)
 
--- src/lib.rt:56:5
+-- src/lib.rt:58:5
 read-content-loop-holds : (t : ℕ) → read-content-lts.Need-loop-holds (
   holds-bytes-reads.Asked,
   holds-bytes-reads.Learnt,
@@ -102,7 +103,7 @@ read-content-loop-holds : (t : ℕ) → read-content-lts.Need-loop-holds (
 ) (read-content-at t) read-content.Post read-content-Inv-loop read-content-μ-loop
 read-content-loop-holds t c = loop-start _ _ _ _ _ _ (c .before .holds-bytes .ensures) (c .if1 .left)
 
--- src/lib.rt:57:13
+-- src/lib.rt:59:13
 read-content-place-in-requires : (t : ℕ) → read-content-lts.Need-place-in-requires (
   holds-bytes-reads.Asked,
   holds-bytes-reads.Learnt,
@@ -115,10 +116,10 @@ read-content-place-in-requires : (t : ℕ) → read-content-lts.Need-place-in-re
   place-at-reads.Asked,
   place-at-reads.Learnt,
 ) (read-content-at t) read-content.Post read-content-Inv-loop read-content-μ-loop
-read-content-place-in-requires t c κs = search needs
+read-content-place-in-requires t c κs = c .before .before .before .before .before .before .pre .1 .2
 
--- src/lib.rt:59:54
-read-content-add-t15 : (t : ℕ) → read-content-lts.Need-add-t15 (
+-- src/lib.rt:61:54
+read-content-add-t16 : (t : ℕ) → read-content-lts.Need-add-t16 (
   holds-bytes-reads.Asked,
   holds-bytes-reads.Learnt,
   place-in-reads.Asked,
@@ -130,9 +131,9 @@ read-content-add-t15 : (t : ℕ) → read-content-lts.Need-add-t15 (
   place-at-reads.Asked,
   place-at-reads.Learnt,
 ) (read-content-at t) read-content.Post read-content-Inv-loop read-content-μ-loop
-read-content-add-t15 t c = omega (arith, (c .before .before .before .loop .inv) .1 .inside, c .before .before .before .before .before .before .before .pre .1 .1)
+read-content-add-t16 t c = omega (arith, (c .before .before .before .loop .inv) .1 .inside, c .before .before .before .before .before .before .before .before .pre .1 .1)
 
--- src/lib.rt:59:13
+-- src/lib.rt:61:13
 read-content-returns-2 : (t : ℕ) → read-content-lts.Need-returns-2 (
   holds-bytes-reads.Asked,
   holds-bytes-reads.Learnt,
@@ -145,9 +146,9 @@ read-content-returns-2 : (t : ℕ) → read-content-lts.Need-returns-2 (
   place-at-reads.Asked,
   place-at-reads.Learnt,
 ) (read-content-at t) read-content.Post read-content-Inv-loop read-content-μ-loop
-read-content-returns-2 t c = loop-left _ _ _ _ _ _ _ _ (c .before .before .before .before .before .before .before .pre .1 .0) (c .before .before .before .loop .inv) (c .before .before .loop-test .taken) (c .before .place-in .ensures) (c .if2 .taken)
+read-content-returns-2 t c = loop-left _ _ _ _ _ _ _ _ (c .before .before .before .before .before .before .before .before .pre .1 .0) (c .before .before .before .loop .inv) (c .before .before .loop-test .taken) (c .before .place-in .ensures) (c .if2 .taken)
 
--- src/lib.rt:61:39
+-- src/lib.rt:63:39
 read-content-sub-record-length : (t : ℕ) → read-content-lts.Need-sub-record-length (
   holds-bytes-reads.Asked,
   holds-bytes-reads.Learnt,
@@ -162,7 +163,7 @@ read-content-sub-record-length : (t : ℕ) → read-content-lts.Need-sub-record-
 ) (read-content-at t) read-content.Post read-content-Inv-loop read-content-μ-loop
 read-content-sub-record-length t c = search needs
 
--- src/lib.rt:61:39
+-- src/lib.rt:63:39
 read-content-part-record-length-start : (t : ℕ) → read-content-lts.Need-part-record-length-start (
   holds-bytes-reads.Asked,
   holds-bytes-reads.Learnt,
@@ -177,7 +178,7 @@ read-content-part-record-length-start : (t : ℕ) → read-content-lts.Need-part
 ) (read-content-at t) read-content.Post read-content-Inv-loop read-content-μ-loop
 read-content-part-record-length-start t c = search needs
 
--- src/lib.rt:61:39
+-- src/lib.rt:63:39
 read-content-part-record-length-end : (t : ℕ) → read-content-lts.Need-part-record-length-end (
   holds-bytes-reads.Asked,
   holds-bytes-reads.Learnt,
@@ -192,7 +193,7 @@ read-content-part-record-length-end : (t : ℕ) → read-content-lts.Need-part-r
 ) (read-content-at t) read-content.Post read-content-Inv-loop read-content-μ-loop
 read-content-part-record-length-end t c = search needs
 
--- src/lib.rt:61:13
+-- src/lib.rt:63:13
 read-content-record-length-requires : (t : ℕ) → read-content-lts.Need-record-length-requires (
   holds-bytes-reads.Asked,
   holds-bytes-reads.Learnt,
@@ -207,7 +208,7 @@ read-content-record-length-requires : (t : ℕ) → read-content-lts.Need-record
 ) (read-content-at t) read-content.Post read-content-Inv-loop read-content-μ-loop
 read-content-record-length-requires t c κs = search needs
 
--- src/lib.rt:62:29
+-- src/lib.rt:64:29
 read-content-sub-read-record : (t : ℕ) → read-content-lts.Need-sub-read-record (
   holds-bytes-reads.Asked,
   holds-bytes-reads.Learnt,
@@ -222,7 +223,7 @@ read-content-sub-read-record : (t : ℕ) → read-content-lts.Need-sub-read-reco
 ) (read-content-at t) read-content.Post read-content-Inv-loop read-content-μ-loop
 read-content-sub-read-record t c = search needs
 
--- src/lib.rt:62:29
+-- src/lib.rt:64:29
 read-content-part-read-record-start : (t : ℕ) → read-content-lts.Need-part-read-record-start (
   holds-bytes-reads.Asked,
   holds-bytes-reads.Learnt,
@@ -237,7 +238,7 @@ read-content-part-read-record-start : (t : ℕ) → read-content-lts.Need-part-r
 ) (read-content-at t) read-content.Post read-content-Inv-loop read-content-μ-loop
 read-content-part-read-record-start t c = search needs
 
--- src/lib.rt:62:29
+-- src/lib.rt:64:29
 read-content-part-read-record-end : (t : ℕ) → read-content-lts.Need-part-read-record-end (
   holds-bytes-reads.Asked,
   holds-bytes-reads.Learnt,
@@ -252,7 +253,7 @@ read-content-part-read-record-end : (t : ℕ) → read-content-lts.Need-part-rea
 ) (read-content-at t) read-content.Post read-content-Inv-loop read-content-μ-loop
 read-content-part-read-record-end t c = search needs
 
--- src/lib.rt:62:47
+-- src/lib.rt:64:47
 read-content-add-read-record : (t : ℕ) → read-content-lts.Need-add-read-record (
   holds-bytes-reads.Asked,
   holds-bytes-reads.Learnt,
@@ -265,9 +266,9 @@ read-content-add-read-record : (t : ℕ) → read-content-lts.Need-add-read-reco
   place-at-reads.Asked,
   place-at-reads.Learnt,
 ) (read-content-at t) read-content.Post read-content-Inv-loop read-content-μ-loop
-read-content-add-read-record t c = omega (arith, (c .before .before .before .before .before .before .loop .inv) .1 .inside, c .before .before .before .before .before .before .before .before .before .before .pre .1 .1)
+read-content-add-read-record t c = omega (arith, (c .before .before .before .before .before .before .loop .inv) .1 .inside, c .before .before .before .before .before .before .before .before .before .before .before .pre .1 .1)
 
--- src/lib.rt:62:13
+-- src/lib.rt:64:13
 read-content-read-record-requires : (t : ℕ) → read-content-lts.Need-read-record-requires (
   holds-bytes-reads.Asked,
   holds-bytes-reads.Learnt,
@@ -281,10 +282,10 @@ read-content-read-record-requires : (t : ℕ) → read-content-lts.Need-read-rec
   place-at-reads.Learnt,
 ) (read-content-at t) read-content.Post read-content-Inv-loop read-content-μ-loop
 read-content-read-record-requires t c κs =
-    let st = c .before .before .before .before .before .before .before .before .before .before in
-    (omega (arith, st .pre .0), (loop-valid _ _ _ _ (st .pre .1 .0) (c .before .before .before .before .place-in .ensures), omega (arith, tail-length (st .args .s .now) (c .before .before .before .before .before .before .loop .i), (c .before .before .before .before .before .before .loop .inv) .1 .inside, st .pre .1 .1)))
+    let st = c .before .before .before .before .before .before .before .before .before .before .before in
+    (omega (arith, st .pre .0), (loop-valid _ _ _ _ (st .pre .1 .0) (c .before .before .before .before .place-in .ensures), omega (arith, tail-length (st .args .s .now) (c .before .before .before .before .before .before .loop .i), (c .before .before .before .before .before .before .loop .inv) .1 .inside, st .pre .1 .1), st .pre .1 .2))
 
--- src/lib.rt:65:22
+-- src/lib.rt:67:22
 read-content-enum-told : (t : ℕ) → read-content-lts.Need-enum-told (
   holds-bytes-reads.Asked,
   holds-bytes-reads.Learnt,
@@ -299,7 +300,7 @@ read-content-enum-told : (t : ℕ) → read-content-lts.Need-enum-told (
 ) (read-content-at t) read-content.Post read-content-Inv-loop read-content-μ-loop
 read-content-enum-told t c = search needs
 
--- src/lib.rt:65:22
+-- src/lib.rt:67:22
 read-content-add-i : (t : ℕ) → read-content-lts.Need-add-i (
   holds-bytes-reads.Asked,
   holds-bytes-reads.Learnt,
@@ -314,7 +315,7 @@ read-content-add-i : (t : ℕ) → read-content-lts.Need-add-i (
 ) (read-content-at t) read-content.Post read-content-Inv-loop read-content-μ-loop
 read-content-add-i t c = omega (arith, c .before .before .before .before .record-length .ensures .1)
 
--- src/lib.rt:65:17
+-- src/lib.rt:67:17
 read-content-add-i-2 : (t : ℕ) → read-content-lts.Need-add-i-2 (
   holds-bytes-reads.Asked,
   holds-bytes-reads.Learnt,
@@ -328,10 +329,10 @@ read-content-add-i-2 : (t : ℕ) → read-content-lts.Need-add-i-2 (
   place-at-reads.Learnt,
 ) (read-content-at t) read-content.Post read-content-Inv-loop read-content-μ-loop
 read-content-add-i-2 t c =
-    let l = loop-on _ _ _ _ _ _ _ _ _ (c .before .before .before .before .before .before .before .before .before .before .before .before .before .pre .1 .0) (c .before .before .before .before .before .before .before .before .before .loop .inv) (c .before .before .before .before .before .before .before .before .loop-test .taken) (c .before .before .before .before .before .before .before .place-in .ensures) (c .before .before .before .before .before .before .if2 .left) (c .before .before .read-record .ensures) _ (c .before .before .before .before .record-length .ensures .0) (c .enum-told .given .1) in
-    omega (arith, l .1 .inside, c .before .before .before .before .before .before .before .before .before .before .before .before .before .pre .1 .1)
+    let l = loop-on _ _ _ _ _ _ _ _ _ (c .before .before .before .before .before .before .before .before .before .before .before .before .before .before .pre .1 .0) (c .before .before .before .before .before .before .before .before .before .loop .inv) (c .before .before .before .before .before .before .before .before .loop-test .taken) (c .before .before .before .before .before .before .before .place-in .ensures) (c .before .before .before .before .before .before .if2 .left) (c .before .before .read-record .ensures) _ (c .before .before .before .before .record-length .ensures .0) (c .enum-told .given .1) in
+    omega (arith, l .1 .inside, c .before .before .before .before .before .before .before .before .before .before .before .before .before .before .pre .1 .1)
 
--- src/lib.rt:66:17
+-- src/lib.rt:68:17
 read-content-add-j : (t : ℕ) → read-content-lts.Need-add-j (
   holds-bytes-reads.Asked,
   holds-bytes-reads.Learnt,
@@ -345,10 +346,10 @@ read-content-add-j : (t : ℕ) → read-content-lts.Need-add-j (
   place-at-reads.Learnt,
 ) (read-content-at t) read-content.Post read-content-Inv-loop read-content-μ-loop
 read-content-add-j t c =
-    let l = loop-on _ _ _ _ _ _ _ _ _ (c .before .before .before .before .before .before .before .before .before .before .before .before .before .pre .1 .0) (c .before .before .before .before .before .before .before .before .before .loop .inv) (c .before .before .before .before .before .before .before .before .loop-test .taken) (c .before .before .before .before .before .before .before .place-in .ensures) (c .before .before .before .before .before .before .if2 .left) (c .before .before .read-record .ensures) _ (c .before .before .before .before .record-length .ensures .0) (c .enum-told .given .1) in
-    omega (arith, l .1 .inside, l .1 .fewer, c .before .before .before .before .before .before .before .before .before .before .before .before .before .pre .1 .1)
+    let l = loop-on _ _ _ _ _ _ _ _ _ (c .before .before .before .before .before .before .before .before .before .before .before .before .before .before .pre .1 .0) (c .before .before .before .before .before .before .before .before .before .loop .inv) (c .before .before .before .before .before .before .before .before .loop-test .taken) (c .before .before .before .before .before .before .before .place-in .ensures) (c .before .before .before .before .before .before .if2 .left) (c .before .before .read-record .ensures) _ (c .before .before .before .before .record-length .ensures .0) (c .enum-told .given .1) in
+    omega (arith, l .1 .inside, l .1 .fewer, c .before .before .before .before .before .before .before .before .before .before .before .before .before .before .pre .1 .1)
 
--- src/lib.rt:56:5
+-- src/lib.rt:58:5
 read-content-loop-less : (t : ℕ) → read-content-lts.Need-loop-less (
   holds-bytes-reads.Asked,
   holds-bytes-reads.Learnt,
@@ -362,10 +363,10 @@ read-content-loop-less : (t : ℕ) → read-content-lts.Need-loop-less (
   place-at-reads.Learnt,
 ) (read-content-at t) read-content.Post read-content-Inv-loop read-content-μ-loop
 read-content-loop-less t c =
-    let l = loop-on _ _ _ _ _ _ _ _ _ (c .before .before .before .before .before .before .before .before .before .before .before .before .before .pre .1 .0) (c .before .before .before .before .before .before .before .before .before .loop .inv) (c .before .before .before .before .before .before .before .before .loop-test .taken) (c .before .before .before .before .before .before .before .place-in .ensures) (c .before .before .before .before .before .before .if2 .left) (c .before .before .read-record .ensures) _ (c .before .before .before .before .record-length .ensures .0) (c .enum-told .given .1) in
+    let l = loop-on _ _ _ _ _ _ _ _ _ (c .before .before .before .before .before .before .before .before .before .before .before .before .before .before .pre .1 .0) (c .before .before .before .before .before .before .before .before .before .loop .inv) (c .before .before .before .before .before .before .before .before .loop-test .taken) (c .before .before .before .before .before .before .before .place-in .ensures) (c .before .before .before .before .before .before .if2 .left) (c .before .before .read-record .ensures) _ (c .before .before .before .before .record-length .ensures .0) (c .enum-told .given .1) in
     omega (arith, l .1 .inside)
 
--- src/lib.rt:56:5
+-- src/lib.rt:58:5
 read-content-loop-again : (t : ℕ) → read-content-lts.Need-loop-again (
   holds-bytes-reads.Asked,
   holds-bytes-reads.Learnt,
@@ -378,9 +379,9 @@ read-content-loop-again : (t : ℕ) → read-content-lts.Need-loop-again (
   place-at-reads.Asked,
   place-at-reads.Learnt,
 ) (read-content-at t) read-content.Post read-content-Inv-loop read-content-μ-loop
-read-content-loop-again t c = loop-on _ _ _ _ _ _ _ _ _ (c .before .before .before .before .before .before .before .before .before .before .before .before .before .pre .1 .0) (c .before .before .before .before .before .before .before .before .before .loop .inv) (c .before .before .before .before .before .before .before .before .loop-test .taken) (c .before .before .before .before .before .before .before .place-in .ensures) (c .before .before .before .before .before .before .if2 .left) (c .before .before .read-record .ensures) _ (c .before .before .before .before .record-length .ensures .0) (c .enum-told .given .1)
+read-content-loop-again t c = loop-on _ _ _ _ _ _ _ _ _ (c .before .before .before .before .before .before .before .before .before .before .before .before .before .before .pre .1 .0) (c .before .before .before .before .before .before .before .before .before .loop .inv) (c .before .before .before .before .before .before .before .before .loop-test .taken) (c .before .before .before .before .before .before .before .place-in .ensures) (c .before .before .before .before .before .before .if2 .left) (c .before .before .read-record .ensures) _ (c .before .before .before .before .record-length .ensures .0) (c .enum-told .given .1)
 
--- src/lib.rt:68:30
+-- src/lib.rt:70:30
 read-content-enum-known-v : (t : ℕ) → read-content-lts.Need-enum-known-v (
   holds-bytes-reads.Asked,
   holds-bytes-reads.Learnt,
@@ -395,7 +396,7 @@ read-content-enum-known-v : (t : ℕ) → read-content-lts.Need-enum-known-v (
 ) (read-content-at t) read-content.Post read-content-Inv-loop read-content-μ-loop
 read-content-enum-known-v t c = search needs
 
--- src/lib.rt:69:17
+-- src/lib.rt:71:17
 read-content-returns-3 : (t : ℕ) → read-content-lts.Need-returns-3 (
   holds-bytes-reads.Asked,
   holds-bytes-reads.Learnt,
@@ -408,9 +409,9 @@ read-content-returns-3 : (t : ℕ) → read-content-lts.Need-returns-3 (
   place-at-reads.Asked,
   place-at-reads.Learnt,
 ) (read-content-at t) read-content.Post read-content-Inv-loop read-content-μ-loop
-read-content-returns-3 t c = loop-refused _ _ _ _ _ _ _ _ _ (c .before .before .before .before .before .before .before .before .before .before .before .before .before .before .pre .1 .0) (c .before .before .before .before .before .before .before .before .before .before .loop .inv) (c .before .before .before .before .before .before .before .before .before .loop-test .taken) (c .before .before .before .before .before .before .before .before .place-in .ensures) (c .before .before .before .before .before .before .before .if2 .left) (c .before .before .before .read-record .ensures) _ (c .before .v .given .1)
+read-content-returns-3 t c = loop-refused _ _ _ _ _ _ _ _ _ (c .before .before .before .before .before .before .before .before .before .before .before .before .before .before .before .pre .1 .0) (c .before .before .before .before .before .before .before .before .before .before .loop .inv) (c .before .before .before .before .before .before .before .before .before .loop-test .taken) (c .before .before .before .before .before .before .before .before .place-in .ensures) (c .before .before .before .before .before .before .before .if2 .left) (c .before .before .before .read-record .ensures) _ (c .before .v .given .1)
 
--- src/lib.rt:74:9
+-- src/lib.rt:76:9
 read-content-returns-4 : (t : ℕ) → read-content-lts.Need-returns-4 (
   holds-bytes-reads.Asked,
   holds-bytes-reads.Learnt,
@@ -423,9 +424,9 @@ read-content-returns-4 : (t : ℕ) → read-content-lts.Need-returns-4 (
   place-at-reads.Asked,
   place-at-reads.Learnt,
 ) (read-content-at t) read-content.Post read-content-Inv-loop read-content-μ-loop
-read-content-returns-4 t c = loop-list _ _ _ _ _ _ _ (c .before .before .before .before .before .before .pre .1 .0) (c .before .before .loop .inv) (omega (arith, c .before .loop-test .left)) (c .if3 .taken)
+read-content-returns-4 t c = loop-list _ _ _ _ _ _ _ (c .before .before .before .before .before .before .before .pre .1 .0) (c .before .before .loop .inv) (omega (arith, c .before .loop-test .left)) (c .if3 .taken)
 
--- src/lib.rt:76:8
+-- src/lib.rt:78:8
 read-content-place-at-requires : (t : ℕ) → read-content-lts.Need-place-at-requires (
   holds-bytes-reads.Asked,
   holds-bytes-reads.Learnt,
@@ -440,7 +441,7 @@ read-content-place-at-requires : (t : ℕ) → read-content-lts.Need-place-at-re
 ) (read-content-at t) read-content.Post read-content-Inv-loop read-content-μ-loop
 read-content-place-at-requires t c κs = search needs
 
--- src/lib.rt:77:9
+-- src/lib.rt:79:9
 read-content-returns-5 : (t : ℕ) → read-content-lts.Need-returns-5 (
   holds-bytes-reads.Asked,
   holds-bytes-reads.Learnt,
@@ -453,10 +454,10 @@ read-content-returns-5 : (t : ℕ) → read-content-lts.Need-returns-5 (
   place-at-reads.Asked,
   place-at-reads.Learnt,
 ) (read-content-at t) read-content.Post read-content-Inv-loop read-content-μ-loop
-read-content-returns-5 t c = loop-full _ _ _ _ _ _ _ _ (c .before .before .before .before .loop .inv) (omega (arith, c .before .before .before .loop-test .left)) (omega (arith, c .before .before .if3 .left)) (c .before .place-at .ensures) (c .if4 .taken)
+read-content-returns-5 t c = loop-full _ _ _ _ _ _ _ _ (c .before .before .before .before .loop .inv) (omega (arith, c .before .before .before .loop-test .left)) (omega (arith, c .before .before .if3 .left)) (read-code (c .before .before .before .before .before .before .before .before .before .args .t .now) _ _ _ (c .before .before .before .before .before .before .before .before .before .pre .1 .2) (c .before .place-at .ensures)) (c .if4 .taken)
 
--- src/lib.rt:79:42
-read-content-add-t26 : (t : ℕ) → read-content-lts.Need-add-t26 (
+-- src/lib.rt:81:42
+read-content-add-t27 : (t : ℕ) → read-content-lts.Need-add-t27 (
   holds-bytes-reads.Asked,
   holds-bytes-reads.Learnt,
   place-in-reads.Asked,
@@ -468,9 +469,9 @@ read-content-add-t26 : (t : ℕ) → read-content-lts.Need-add-t26 (
   place-at-reads.Asked,
   place-at-reads.Learnt,
 ) (read-content-at t) read-content.Post read-content-Inv-loop read-content-μ-loop
-read-content-add-t26 t c = omega (arith, (c .before .before .before .before .loop .inv) .1 .inside, c .before .before .before .before .before .before .before .before .pre .1 .1)
+read-content-add-t27 t c = omega (arith, (c .before .before .before .before .loop .inv) .1 .inside, c .before .before .before .before .before .before .before .before .before .pre .1 .1)
 
--- src/lib.rt:47:1
+-- src/lib.rt:49:1
 read-content-returns-6 : (t : ℕ) → read-content-lts.Need-returns-6 (
   holds-bytes-reads.Asked,
   holds-bytes-reads.Learnt,
@@ -483,9 +484,9 @@ read-content-returns-6 : (t : ℕ) → read-content-lts.Need-returns-6 (
   place-at-reads.Asked,
   place-at-reads.Learnt,
 ) (read-content-at t) read-content.Post read-content-Inv-loop read-content-μ-loop
-read-content-returns-6 t c = loop-short _ _ _ _ _ _ _ _ (c .before .before .before .before .loop .inv) (omega (arith, c .before .before .before .loop-test .left)) (omega (arith, c .before .before .if3 .left)) (c .before .place-at .ensures) (c .if4 .left)
+read-content-returns-6 t c = loop-short _ _ _ _ _ _ _ _ (c .before .before .before .before .loop .inv) (omega (arith, c .before .before .before .loop-test .left)) (omega (arith, c .before .before .if3 .left)) (read-code (c .before .before .before .before .before .before .before .before .before .args .t .now) _ _ _ (c .before .before .before .before .before .before .before .before .before .pre .1 .2) (c .before .place-at .ensures)) (c .if4 .left)
 
--- src/lib.rt:87:8
+-- src/lib.rt:89:8
 read-record-is-short-requires : (t : ℕ) → read-record-lts.Need-is-short-requires (
   is-short-reads.Asked,
   is-short-reads.Learnt,
@@ -500,7 +501,7 @@ read-record-is-short-requires : (t : ℕ) → read-record-lts.Need-is-short-requ
 ) (read-record-at t) read-record.Post
 read-record-is-short-requires t c κs = search needs
 
--- src/lib.rt:88:9
+-- src/lib.rt:90:9
 read-record-returns : (t : ℕ) → read-record-lts.Need-returns (
   is-short-reads.Asked,
   is-short-reads.Learnt,
@@ -515,7 +516,7 @@ read-record-returns : (t : ℕ) → read-record-lts.Need-returns (
 ) (read-record-at t) read-record.Post
 read-record-returns t c = record-short _ _ _ _ _ (c .before .is-short .ensures) (c .if1 .taken)
 
--- src/lib.rt:90:9
+-- src/lib.rt:92:9
 read-record-record-kind-requires : (t : ℕ) → read-record-lts.Need-record-kind-requires (
   is-short-reads.Asked,
   is-short-reads.Learnt,
@@ -530,7 +531,7 @@ read-record-record-kind-requires : (t : ℕ) → read-record-lts.Need-record-kin
 ) (read-record-at t) read-record.Post
 read-record-record-kind-requires t c κs = search needs
 
--- src/lib.rt:91:9
+-- src/lib.rt:93:9
 read-record-may-stand-requires : (t : ℕ) → read-record-lts.Need-may-stand-requires (
   is-short-reads.Asked,
   is-short-reads.Learnt,
@@ -545,7 +546,7 @@ read-record-may-stand-requires : (t : ℕ) → read-record-lts.Need-may-stand-re
 ) (read-record-at t) read-record.Post
 read-record-may-stand-requires t c κs = search needs
 
--- src/lib.rt:92:9
+-- src/lib.rt:94:9
 read-record-returns-2 : (t : ℕ) → read-record-lts.Need-returns-2 (
   is-short-reads.Asked,
   is-short-reads.Learnt,
@@ -560,7 +561,7 @@ read-record-returns-2 : (t : ℕ) → read-record-lts.Need-returns-2 (
 ) (read-record-at t) read-record.Post
 read-record-returns-2 t c = record-wrong _ _ _ _ _ _ _ (c .before .before .before .before .is-short .ensures) (c .before .before .before .if1 .left) (c .before .before .record-kind .ensures .0) (c .before .may-stand .ensures) (c .if2 .taken)
 
--- src/lib.rt:95:9
+-- src/lib.rt:97:9
 read-record-returns-3 : (t : ℕ) → read-record-lts.Need-returns-3 (
   is-short-reads.Asked,
   is-short-reads.Learnt,
@@ -575,7 +576,7 @@ read-record-returns-3 : (t : ℕ) → read-record-lts.Need-returns-3 (
 ) (read-record-at t) read-record.Post
 read-record-returns-3 t c = record-deep _ _ _ _ _ _ _ (c .before .before .before .before .before .is-short .ensures) (c .before .before .before .before .if1 .left) (c .before .before .before .record-kind .ensures .0) (c .before .before .may-stand .ensures) (c .before .if2 .left) (c .if3 .taken)
 
--- src/lib.rt:97:18
+-- src/lib.rt:99:18
 read-record-content-requires : (t : ℕ) → read-record-lts.Need-content-requires (
   is-short-reads.Asked,
   is-short-reads.Learnt,
@@ -590,7 +591,7 @@ read-record-content-requires : (t : ℕ) → read-record-lts.Need-content-requir
 ) (read-record-at t) read-record.Post
 read-record-content-requires t c κs = search needs
 
--- src/lib.rt:97:44
+-- src/lib.rt:99:44
 read-record-sub-read-content : (t : ℕ) → read-record-lts.Need-sub-read-content (
   is-short-reads.Asked,
   is-short-reads.Learnt,
@@ -605,7 +606,7 @@ read-record-sub-read-content : (t : ℕ) → read-record-lts.Need-sub-read-conte
 ) (read-record-at t) read-record.Post
 read-record-sub-read-content t c = omega (arith, c .before .if3 .left)
 
--- src/lib.rt:97:54
+-- src/lib.rt:99:54
 read-record-add-read-content : (t : ℕ) → read-record-lts.Need-add-read-content (
   is-short-reads.Asked,
   is-short-reads.Learnt,
@@ -618,9 +619,9 @@ read-record-add-read-content : (t : ℕ) → read-record-lts.Need-add-read-conte
   read-content-below t,
   read-content.Post,
 ) (read-record-at t) read-record.Post
-read-record-add-read-content t c = omega (arith, content-in (c .before .before .before .before .before .before .before .before .args .s .now) (c .content .result .now) (c .before .before .before .before .before .before .is-short .result) (c .before .before .before .before .before .before .is-short .ensures) (c .before .before .before .before .before .if1 .left) (c .content .ensures), c .before .before .before .before .before .before .before .before .pre .1 .1)
+read-record-add-read-content t c = omega (arith, content-in (c .before .before .before .before .before .before .before .before .before .args .s .now) (c .content .result .now) (c .before .before .before .before .before .before .is-short .result) (c .before .before .before .before .before .before .is-short .ensures) (c .before .before .before .before .before .if1 .left) (c .content .ensures), c .before .before .before .before .before .before .before .before .before .pre .1 .1)
 
--- src/lib.rt:97:5
+-- src/lib.rt:99:5
 read-record-read-content-requires : (t : ℕ) → read-record-lts.Need-read-content-requires (
   is-short-reads.Asked,
   is-short-reads.Learnt,
@@ -634,10 +635,10 @@ read-record-read-content-requires : (t : ℕ) → read-record-lts.Need-read-cont
   read-content.Post,
 ) (read-record-at t) read-record.Post
 read-record-read-content-requires t c κs =
-    let st = c .before .before .before .before .before .before .before .before in
-    (omega (arith, st .pre .0, c .before .if3 .left), (st .pre .1 .0, omega (arith, content-in (c .before .before .before .before .before .before .before .before .args .s .now) (c .content .result .now) (c .before .before .before .before .before .before .is-short .result) (c .before .before .before .before .before .before .is-short .ensures) (c .before .before .before .before .before .if1 .left) (c .content .ensures), st .pre .1 .1)))
+    let st = c .before .before .before .before .before .before .before .before .before in
+    (omega (arith, st .pre .0, c .before .if3 .left), (st .pre .1 .0, omega (arith, content-in (c .before .before .before .before .before .before .before .before .before .args .s .now) (c .content .result .now) (c .before .before .before .before .before .before .is-short .result) (c .before .before .before .before .before .before .is-short .ensures) (c .before .before .before .before .before .if1 .left) (c .content .ensures), st .pre .1 .1), st .pre .1 .2))
 
--- src/lib.rt:83:1
+-- src/lib.rt:85:1
 read-record-returns-4 : (t : ℕ) → read-record-lts.Need-returns-4 (
   is-short-reads.Asked,
   is-short-reads.Learnt,
@@ -673,7 +674,7 @@ pub +read-content+read-record-spec : {M : Type 1} → statement M
     (read-content-returns t)
     (read-content-loop-holds t)
     (read-content-place-in-requires t)
-    (read-content-add-t15 t)
+    (read-content-add-t16 t)
     (read-content-returns-2 t)
     (read-content-sub-record-length t)
     (read-content-part-record-length-start t)
@@ -695,7 +696,7 @@ pub +read-content+read-record-spec : {M : Type 1} → statement M
     (read-content-returns-4 t)
     (read-content-place-at-requires t)
     (read-content-returns-5 t)
-    (read-content-add-t26 t)
+    (read-content-add-t27 t)
     (read-content-returns-6 t))
     λ t. read-record-lts.spec (
       is-short-reads.Asked,

@@ -1,7 +1,7 @@
 -- `rows::may_stand` meets its contract: FIRST and LAST are the tables that the places of one record make. Assumes nothing.
 use native.Mathlib.Omega.{arith}
 use borrow.Author.Needs.{needs}
-use Rattle.rows.proofs.Table.{firsts, lasts, stands-more, stands-none, stands-under, stands-upto}
+use Rattle.rows.proofs.Tables.{firsts, lasts, stands-more, stands-none, stands-under, stands-upto}
 use Rattle.rows.proofs.may_stand.Statement.{statement}
 use Rattle.rows.proofs.may_stand.Tie as tie
 

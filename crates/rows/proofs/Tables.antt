@@ -6,20 +6,14 @@ use Prim.Native.Nat.{ℕ, zero, suc, _+_, _*_, _<_, _≤_}
 use native.Mathlib.Nat.{add-zero, le-of-suc-le-suc, not-suc-le-zero}
 use native.Mathlib.Omega.{arith}
 use native.Mathlib.Decide.{decLe}
-use lib.ListN.{length, getD, List·getD-append, List·getD-map}
+use lib.ListN.{length, getD, List·getD-append, List·getD-map, List·getD-eq-default}
 use lib.Seq.{getD-append-add}
-use lib.Dec.{eqb, leb}
-use borrow.Author.Tests.{eqb-true, eqb-false, le-leb, lt-leb}
+use lib.Dec.{eqb, leb, ltb}
+use borrow.Author.Tests.{eqb-true, eqb-false, le-leb, lt-leb, le-ltb, lt-ltb}
 use Rattle.records.specs.Kinds.{Place, kinds, name, seq, option, one, stands, rowOf}
 use Rattle.records.proofs.Run.{within}
-use Rattle.rows.specs.Codes.{bases, baseOf, placeOf, codeOf, codeAt}
-use Rattle.rows.proofs.Codes.{place-one, base-past, base-seq, base-option}
-
--- the first n elements, with 0 where there are none
-padded : ℕ → List ℕ → List ℕ
-padded zero s = []
-padded (suc n) [] = 0 ∷ padded n []
-padded (suc n) (x ∷ s) = x ∷ padded n s
+use Rattle.rows.specs.Codes.{bases, baseOf, placeOf, codeOf, codeAt, padded, tableFrom, table, codeFrom}
+use Rattle.rows.proofs.Codes.{place-one, code-past, code-beyond, base-past, base-seq, base-option}
 
 length-padded : (n : ℕ) (s : List ℕ) → length (padded n s) ≡ n
 unfolding padded
@@ -34,15 +28,6 @@ getD-padded (suc n) [] zero h = refl
 getD-padded (suc n) [] (suc j) h = getD-padded n [] j (le-of-suc-le-suc h)
 getD-padded (suc n) (x ∷ s) zero h = refl
 getD-padded (suc n) (x ∷ s) (suc j) h = getD-padded n s j (le-of-suc-le-suc h)
-
--- six numbers for each of n kinds from a on
-tableFrom : (n a : ℕ) → List ℕ
-tableFrom zero a = []
-tableFrom (suc n) a = padded 6 (map codeOf (rowOf a)) ++ tableFrom n (suc a)
-
-unfoldable pub table : List ℕ
-unfolding tableFrom padded rowOf codeOf
-table = tableFrom 135 0
 
 tableFrom-at : (n a k j : ℕ) → k < n → j < 6 → getD (tableFrom n a) (k * 6 + j) 0 ≡ codeAt (a + k) j
 unfolding tableFrom codeAt
@@ -60,6 +45,36 @@ tableFrom-at (suc n) a (suc k) j h g =
 pub table-at : (k j : ℕ) → k < 135 → j < 6 → getD table (k * 6 + j) 0 ≡ codeAt k j
 unfolding table
 table-at k j h g = let e : 0 + k ≡ k = omega arith in rw e at (tableFrom-at 135 0 k j h g)
+
+-- the table's codes are those of the rows
+pub code-from : (k j : ℕ) → codeFrom table k j ≡ codeAt k j
+unfolding codeFrom
+code-from k j =
+    elim (decLe 135 k) [
+      | yes h ↦ rw (le-ltb k 135 h) (sym (code-past k j h))
+      | no h ↦
+          elim (decLe 6 j) [
+            | yes g ↦ rw (lt-ltb k 135 (omega arith), le-ltb j 6 g) (sym (code-beyond k j g))
+            | no g ↦ rw (lt-ltb k 135 (omega arith), lt-ltb j 6 (omega arith)) (table-at k j (omega arith) (omega arith))
+          ]
+    ]
+
+-- and the code's three tests are those of codeFrom
+pub from-past : (t : List ℕ) (k j : ℕ) → 135 ≤ k → 0 ≡ codeFrom t k j
+unfolding codeFrom
+from-past t k j h = rw (le-ltb k 135 h)
+
+pub from-beyond : (t : List ℕ) (k j : ℕ) → 6 ≤ j → 0 ≡ codeFrom t k j
+unfolding codeFrom
+from-beyond t k j h = elim (decLe 135 k) [ yes g ↦ rw (le-ltb k 135 g) | no g ↦ rw (lt-ltb k 135 (omega arith), le-ltb j 6 h) ]
+
+pub from-end : (t : List ℕ) (k j : ℕ) → k < 135 → j < 6 → length t ≤ k * 6 + j → 0 ≡ codeFrom t k j
+unfolding codeFrom
+from-end t k j h g l = rw (lt-ltb k 135 h, lt-ltb j 6 g) (sym (List·getD-eq-default t 0 {n = k * 6 + j} l))
+
+pub from-at : (t : List ℕ) (k j : ℕ) → k < 135 → j < 6 → getD t (k * 6 + j) 0 ≡ codeFrom t k j
+unfolding codeFrom
+from-at t k j h g = rw (lt-ltb k 135 h, lt-ltb j 6 g)
 
 -- the first and the last kind that may stand at a place
 firstOf : Place → ℕ

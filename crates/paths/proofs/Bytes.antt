@@ -1,0 +1,65 @@
+-- Bytes compared in two parts, and paths by their bytes. Assumes nothing.
+use mathlib.Core.Path.{_≡_, refl, ap, sym, _∙_}
+use mathlib.Core.List.{[], _∷_, _++_}
+use mathlib.Core.Bool.{Bool, true, false, not, _&&_, and-assoc, false≢true}
+use Prim.Native.Nat.{ℕ, _-_, _<_, _≤_}
+use native.Mathlib.Omega.{arith}
+use lib.ListN.{length, take, drop}
+use lib.Dec.{eqb}
+use Rattle.wire.specs.Numbers.{Bytes, le, sameBytes}
+use Rattle.wire.proofs.Alike.{other-length}
+use Rattle.wire.proofs.Slices.{tail-is}
+use Rattle.wire.proofs.Numbers.{sameBytes-self, sameBytes-true}
+use Rattle.records.specs.Record.{encode}
+use Rattle.records.proofs.Tree.{Canonical}
+use Rattle.rast.specs.Path.{Path, «dafny_runtime»}
+use Rattle.rast.specs.Operation.{upstream}
+use Rattle.rast.proofs.Tests.{both-ways}
+use Rattle.factor_paths.specs.Mapping.{equal}
+use Rattle.factor_paths.proofs.SameBytes.{same-bytes, bytes-same}
+
+-- the same is what is the same in both parts
+pub same-parts : (s h t : Bytes) → length h ≤ length s → sameBytes (take (length h) s) h && sameBytes (drop (length h) s) t ≡ sameBytes s (h ++ t)
+unfolding sameBytes
+same-parts s [] t l = refl
+same-parts [] (y ∷ h) t l = absurd (omega arith)
+same-parts (x ∷ s) (y ∷ h) t l = and-assoc (eqb x y) (sameBytes (take (length h) s) h) (sameBytes (drop (length h) s) t) ∙ ap (λ (b : Bool). eqb x y && b) (same-parts s h t (omega arith))
+
+-- paths compare as their bytes do
+pub paths-same : (p q : Path) → Canonical p → Canonical q → sameBytes (encode p) (encode q) ≡ equal upstream p q
+paths-same p q c d =
+    both-ways (sameBytes (encode p) (encode q)) (equal upstream p q)
+    (λ h. bytes-same p q c d (sameBytes-true (encode p) (encode q) h))
+    (λ h. rw (same-bytes p q h) (sameBytes-self (encode q)))
+
+not-true : (b : Bool) → not b ≡ true → b ≡ false
+not-true true n = absurd (false≢true n)
+not-true false n = refl
+
+not-false : (b : Bool) → not b ≡ false → b ≡ true
+not-false true n = refl
+not-false false n = absurd (false≢true (sym n))
+
+-- the record of ::dafny_runtime, up to the name and from it on
+abbrev pub head : Bytes
+head = 27 ∷ 0 ∷ 0 ∷ 0 ∷ 19 ∷ 0 ∷ 2 ∷ 0 ∷ 0 ∷ 0 ∷ 16 ∷ 0 ∷ 15 ∷ 0 ∷ 0 ∷ 0 ∷ 1 ∷ 0 ∷ []
+
+abbrev pub name : Bytes
+name = 100 ∷ 97 ∷ 102 ∷ 110 ∷ 121 ∷ 95 ∷ 114 ∷ 117 ∷ 110 ∷ 116 ∷ 105 ∷ 109 ∷ 101 ∷ []
+
+runtime-bytes : encode «dafny_runtime» ≡ head ++ name
+unfolding encode le
+runtime-bytes = refl
+
+pub runtime-few : (s : Bytes) → length s < 18 → false ≡ sameBytes s (encode «dafny_runtime»)
+runtime-few s h = other-length s (encode «dafny_runtime») (λ e. let l : length (encode «dafny_runtime») ≡ 31 = ap length runtime-bytes in omega arith)
+
+module _ (s : Bytes) (b : Bool) (h : 18 ≤ length s) (e : b ≡ sameBytes (take 18 s) head) where
+  parts : sameBytes (take 18 s) head && sameBytes (drop 18 s) name ≡ sameBytes s (encode «dafny_runtime»)
+  parts = same-parts s head name h ∙ ap (sameBytes s) (sym runtime-bytes)
+
+  pub runtime-not : not b ≡ true → false ≡ sameBytes s (encode «dafny_runtime»)
+  runtime-not n = ap (λ (x : Bool). x && sameBytes (drop 18 s) name) (sym (not-true b n) ∙ e) ∙ parts
+
+  pub runtime-is : (x : Bool) → not b ≡ false → x ≡ sameBytes (take (length s - 18) (drop 18 s)) name → x ≡ sameBytes s (encode «dafny_runtime»)
+  runtime-is x n r = r ∙ ap (λ (y : Bytes). sameBytes y name) (tail-is s 18) ∙ ap (λ (y : Bool). y && sameBytes (drop 18 s) name) (sym (not-false b n) ∙ e) ∙ parts

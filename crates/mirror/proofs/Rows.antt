@@ -9,6 +9,7 @@ use lib.Dec.{T, leb, eqb, lit≤}
 use borrow.Author.Tests.{eqb-true}
 use Rattle.wire.specs.Numbers.{Bytes}
 use Rattle.records.specs.Record.{Record, Records, leaf, node, nil, _▸_, isLeaf, text, children}
+use Rattle.records.proofs.ByRow.{no-leaf}
 use Rattle.records.specs.Kinds.{Place, kinds, seq, option, name, one, stands, Content, bytes, these, any, atMostOne, rowOf, contentAt}
 use Rattle.records.proofs.Fits.{Fits, FitsAll}
 use Rattle.mirror.specs.Tree.{list, trees}
@@ -54,18 +55,6 @@ module _ {D : Type 0} (reading : ℕ → List (Kid D) → D) where
   layer other Good = record { Kid = Kid D; other = other; kid = kid reading; itself = λ x. x .own; itself-is = λ r. refl; Good = Good }
 
 -- a record of other records of a kind from 4 on holds what its row says
-no-leaf : (k : ℕ) → 4 ≤ k → isLeaf k ≡ false
-no-leaf k h = go (eqb k 0x01) (eqb k 0x03) refl refl
-  where
-    go : (a b : Bool) → eqb k 0x01 ≡ a → eqb k 0x03 ≡ b → a || b ≡ false
-    go true b p q =
-        let e : k ≡ 1 = eqb-true k 0x01 p in
-        absurd (omega arith)
-    go false true p q =
-        let e : k ≡ 3 = eqb-true k 0x03 q in
-        absurd (omega arith)
-    go false false p q = refl
-
 row-of : (from to k : ℕ) → 4 ≤ k → contentAt (kinds from to) k ≡ these (rowOf k)
 unfolding contentAt
 row-of from to k h = rw (no-leaf k h)

@@ -86,6 +86,11 @@ no-expr-role k e =
     go true e = refl
     go false e = absurd (false≢true e)
 
+-- one wrapping more outside is one more inside
+pub deeper-suc : (a : Bool) (w : ℕ) → suc (deeper a w) ≡ deeper a (suc w)
+deeper-suc true w = refl
+deeper-suc false w = refl
+
 -- so it does not matter what Replace would do with one
 module _ (f g ft : Record → Record) where
   same-mapped : (ρ : Role) → isExpr ρ ≡ false → (this r q : Record) → r ≡ q → mapped f ft ρ this r ≡ mapped g ft ρ this q
@@ -221,10 +226,6 @@ module _ (op : Operation) (rep : FinalReplacement) where
     at-other : (k : ℕ) (d : Records) → role k ≡ other → Replace f s (node k d) ≡ node k d
     unfolding Replace
     at-other k d e = rw e
-
-    deeper-suc : (a : Bool) (w : ℕ) → suc (deeper a w) ≡ deeper a (suc w)
-    deeper-suc true w = refl
-    deeper-suc false w = refl
 
     -- one record, given the layer of what it holds
     layer-node : (a : Bool) (w k : ℕ) (c : Records) (ρ : Role) → role k ≡ ρ → (eqb k 0x2D || eqb k 0x5C ≡ true → PathIn c) →

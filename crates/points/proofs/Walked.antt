@@ -17,7 +17,7 @@ use Rattle.factor_paths.specs.PathsVisitor.{marked, unmarked}
 use Rattle.factor_paths.specs.Apply.{Identifier, pathsToRemove, imports, replaces, ReplaceExprSingle}
 use Rattle.factor_paths.specs.Walk.{Step, aType, anExpr, aFn, left, holds, stepOf, deeper, synonyms, wrap, stepped, walk, walkAll, walkFn}
 use Rattle.factor_paths.proofs.Tidy.{declKind, PathIn, Paths, PathsAll}
-use Rattle.factor_paths.proofs.Wraps.{paths-walked, wrap-other, expr-other, or-left, or-right}
+use Rattle.factor_paths.proofs.Wraps.{deeper-suc, paths-walked, wrap-other, expr-other, or-left, or-right}
 use Rattle.factor_paths.specs.LookUp.{bare, barePath, unmarkedAll, lookUp, collected}
 use Rattle.points.specs.Points.{Module, Meeting, shortType, shortExpr, module′, elsewhere, meeting, Finds, ShortType, ShortExpr, Met, Point, Points}
 use Rattle.factor_paths.proofs.Uses.{Marks, looks-up, replaced-unmarked}
@@ -120,10 +120,6 @@ module _ (op : Operation) (N : Names op) (alike : Marks op) (m : Record) (p : Pa
       (λ q. rw (t, q) (same-node op M 0x5C c c refl (points-self op M c o))))
       (λ t. rw t (same-node op M 0x5C c c refl (points-self op M c o)))))))
 
-  deeper-suc : (a : Bool) (w : ℕ) → deeper a (suc w) ≡ suc (deeper a w)
-  deeper-suc true w = refl
-  deeper-suc false w = refl
-
   -- one record, given the points of what it holds
   step-point : (a : Bool) (w k : ℕ) (c : Records) (s : Step) → declKind k ≡ true → OfAll declKind c → (eqb k 0x2D || eqb k 0x5C ≡ true → PathIn c) →
       Points op M c (walkAll op rep a (suc (deeper a w)) c) → Points op M c (walkAll op rep a (suc w) c) → Points op M c (walkFn op rep 0 c) →
@@ -147,7 +143,7 @@ module _ (op : Operation) (N : Names op) (alike : Marks op) (m : Record) (p : Pa
     pub walk-point : (r : Record) (a : Bool) (w : ℕ) → Of declKind r → Paths r → Point op M r (walk op rep a (suc w) r)
     walk-point (leaf k b) a w o p = (refl, refl)
     walk-point (node k c) a w o p =
-        rw (deeper-suc a w)
+        rw (← deeper-suc a w)
         (step-point a w k c (stepOf k) (o .0) (o .1) (p .0) (walk-points c a (deeper a w) (o .1) (p .1)) (walk-points c a w (o .1) (p .1)) (fn-points c 0 (o .1) (p .1)))
 
     pub walk-points : (c : Records) (a : Bool) (w : ℕ) → OfAll declKind c → PathsAll c → Points op M c (walkAll op rep a (suc w) c)

@@ -21,6 +21,7 @@ use Rattle.records.proofs.Tree.{rest-length, content-length}
 use Rattle.records.specs.Kinds.{ofBytes}
 use Rattle.records.proofs.Fuel.{step-same, read-same}
 use Rattle.rast.proofs.Tests.{by-option}
+use Rattle.reading.proofs.Held.{held}
 use Rattle.reading.specs.Reads.{reads, readsRecord, after, firstOf, placeIn, mayEnd}
 
 -- one less deep and one less allowed is the same
@@ -88,16 +89,6 @@ reads-none left c at p more e = reads-record left c at [] p more e ∙ go left
     go zero = refl
     go (suc left) = refl
 
--- a record that is sound is all there
-past : (a : Bool) (x : Answer) (v : Verdict) → cond a (Refused x) v ≡ Sound → a ≡ false
-past true x v h = cc
-past false x v h = refl
-
-pub record-long : (left : ℕ) (p : Place) (at : ℕ) (s : Bytes) → readsRecord left p at s ≡ Sound → short s ≡ false
-unfolding readsRecord
-record-long zero p at s h = past (short s) _ _ h
-record-long (suc left) p at s h = past (short s) _ _ h
-
 -- what comes after j records
 drop-none : (ps : List Place) (j : ℕ) → firstOf (drop j ps) ≡ none → drop j ps ≡ []
 drop-none [] zero h = refl
@@ -157,7 +148,7 @@ turn-start left c at s = record { inside = omega arith; fewer = omega arith; sam
 pub turn-on : (left : ℕ) (c : Content) (at : ℕ) (s : Bytes) (i j : ℕ) (q : Place) → Turn left c at s i j → i < length s → placeIn c j ≡ some q → readsRecord left q (at + i) (drop i s) ≡ Sound →
     Turn left c at s (i + (4 + lengthOf (drop i s))) (j + 1)
 turn-on left c at s i j q t h e v =
-    let l : short (drop i s) ≡ false = record-long left q (at + i) (drop i s) v in
+    let l : short (drop i s) ≡ false = held left q (at + i) (drop i s) v .long in
     let r = rest-length (drop i s) l in
     let k = content-length (drop i s) l in
     let d : length (drop i s) ≡ length s - i = length-drop i s in

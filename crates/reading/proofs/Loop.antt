@@ -20,7 +20,7 @@ use Rattle.records.proofs.Tree.{rest-length, content-length}
 use Rattle.rows.specs.Codes.{placeOf, codeAt}
 use Rattle.reading.specs.Reads.{reads, readsRecord, placeIn}
 use Rattle.reading.specs.Codes.{codeIn, Valid}
-use Rattle.reading.proofs.Laws.{Turn, turn-start, turn-on, turn-refused, turn-left, turn-end, record-long, reads-done}
+use Rattle.reading.proofs.Laws.{Turn, turn-start, turn-on, turn-refused, turn-left, turn-end, reads-done}
 use Rattle.reading.proofs.Places.{place-none, place-some, place-valid, end-row, end-list}
 
 -- a content of records, i bytes and j records into it

@@ -11,3 +11,4 @@ pub mod ByRow
 pub mod Hereditary
 pub mod Shape
 pub mod Faults
+pub mod First

@@ -1,13 +1,13 @@
--- Bytes compared in two parts, and paths by their bytes. Assumes nothing.
+-- Paths compared by their bytes. Assumes nothing.
 use mathlib.Core.Path.{_≡_, refl, ap, sym, _∙_}
 use mathlib.Core.List.{[], _∷_, _++_}
-use mathlib.Core.Bool.{Bool, true, false, not, _&&_, and-assoc, false≢true}
-use Prim.Native.Nat.{ℕ, _-_, _<_, _≤_}
+use mathlib.Core.Bool.{Bool, true, false, not, _&&_}
+use Prim.Native.Nat.{_-_, _<_, _≤_}
 use native.Mathlib.Omega.{arith}
 use lib.ListN.{length, take, drop}
-use lib.Dec.{eqb}
+use borrow.Author.Tests.{not-true, not-false}
 use Rattle.wire.specs.Numbers.{Bytes, le, sameBytes}
-use Rattle.wire.proofs.Alike.{other-length}
+use Rattle.wire.proofs.Alike.{other-length, same-parts}
 use Rattle.wire.proofs.Slices.{tail-is}
 use Rattle.wire.proofs.Numbers.{sameBytes-self, sameBytes-true}
 use Rattle.records.specs.Record.{encode}
@@ -18,27 +18,12 @@ use Rattle.rast.proofs.Tests.{both-ways}
 use Rattle.factor_paths.specs.Mapping.{equal}
 use Rattle.factor_paths.proofs.SameBytes.{same-bytes, bytes-same}
 
--- the same is what is the same in both parts
-pub same-parts : (s h t : Bytes) → length h ≤ length s → sameBytes (take (length h) s) h && sameBytes (drop (length h) s) t ≡ sameBytes s (h ++ t)
-unfolding sameBytes
-same-parts s [] t l = refl
-same-parts [] (y ∷ h) t l = absurd (omega arith)
-same-parts (x ∷ s) (y ∷ h) t l = and-assoc (eqb x y) (sameBytes (take (length h) s) h) (sameBytes (drop (length h) s) t) ∙ ap (λ (b : Bool). eqb x y && b) (same-parts s h t (omega arith))
-
 -- paths compare as their bytes do
 pub paths-same : (p q : Path) → Canonical p → Canonical q → sameBytes (encode p) (encode q) ≡ equal upstream p q
 paths-same p q c d =
     both-ways (sameBytes (encode p) (encode q)) (equal upstream p q)
     (λ h. bytes-same p q c d (sameBytes-true (encode p) (encode q) h))
     (λ h. rw (same-bytes p q h) (sameBytes-self (encode q)))
-
-not-true : (b : Bool) → not b ≡ true → b ≡ false
-not-true true n = absurd (false≢true n)
-not-true false n = refl
-
-not-false : (b : Bool) → not b ≡ false → b ≡ true
-not-false true n = refl
-not-false false n = absurd (false≢true (sym n))
 
 -- the record of ::dafny_runtime, up to the name and from it on
 abbrev pub head : Bytes

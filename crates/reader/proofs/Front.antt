@@ -1,29 +1,25 @@
 -- The laws of the record at the front of a slice: which part of the slice is its content, which follows it, and when it is short.
 -- In each, n is the length that was read. Assumes nothing.
 use mathlib.Core.Path.{_≡_, refl, ap, sym, _∙_}
-use mathlib.Core.List.{[]}
 use mathlib.Core.Bool.{true}
 use Prim.Native.Nat.{ℕ, _+_, _-_, _<_, _≤_}
 use native.Mathlib.Omega.{arith}
 use lib.ListN.{length, take, drop, length-drop, drop-of-length-le}
-use lib.Seq.{take-nil, take-all, drop-length}
+use lib.Seq.{take-nil, take-all}
 use lib.Dec.{ltb}
 use borrow.Author.Tests.{lt-ltb, le-ltb}
 use Rattle.wire.specs.Numbers.{Bytes}
+use Rattle.wire.proofs.Slices.{end-is}
 use Rattle.records.specs.Record.{lengthOf, contentOf, restOf}
 use Rattle.records.specs.Reading.{short}
 
--- the part from the end on is empty
-none : (s : Bytes) → take (length s - length s) (drop (length s) s) ≡ []
-none s = rw (drop-length s, take-nil (length s - length s))
-
 -- too few bytes for a record: no content
 pub content-few : (s : Bytes) → length s < 6 → take (length s - length s) (drop (length s) s) ≡ contentOf s
-content-few s h = none s ∙ sym (rw (drop-of-length-le s {i = 6} (omega arith), take-nil (lengthOf s - 2)))
+content-few s h = end-is s ∙ sym (rw (drop-of-length-le s {i = 6} (omega arith), take-nil (lengthOf s - 2)))
 
 -- a length under 2: no content
 pub content-small : (s : Bytes) (n : ℕ) → n ≡ lengthOf s → n < 2 → take (length s - length s) (drop (length s) s) ≡ contentOf s
-content-small s n e h = let z : lengthOf s - 2 ≡ 0 = omega arith in none s ∙ sym (ap (λ (x : ℕ). take x (drop 6 s)) z)
+content-small s n e h = let z : lengthOf s - 2 ≡ 0 = omega arith in end-is s ∙ sym (ap (λ (x : ℕ). take x (drop 6 s)) z)
 
 -- a length past the end: all that there is
 pub content-past : (s : Bytes) (n : ℕ) → n ≡ lengthOf s → length s < n + 4 → take (length s - 6) (drop 6 s) ≡ contentOf s
@@ -36,13 +32,16 @@ content-whole s n e = let z : n + 4 - 6 ≡ lengthOf s - 2 = omega arith in ap (
 
 -- a length past the end: nothing follows
 pub rest-past : (s : Bytes) (n : ℕ) → n ≡ lengthOf s → length s < n + 4 → take (length s - length s) (drop (length s) s) ≡ restOf s
-rest-past s n e h = none s ∙ sym (drop-of-length-le s {i = 4 + lengthOf s} (omega arith))
+rest-past s n e h = end-is s ∙ sym (drop-of-length-le s {i = 4 + lengthOf s} (omega arith))
 
 pub rest-whole : (s : Bytes) (n : ℕ) → n ≡ lengthOf s → take (length s - (n + 4)) (drop (n + 4) s) ≡ restOf s
 rest-whole s n e =
     let l = length-drop (n + 4) s in
     let z : n + 4 ≡ 4 + lengthOf s = omega arith in
     take-all (length s - (n + 4)) (drop (n + 4) s) (omega arith) ∙ ap (λ (x : ℕ). drop x s) z
+
+pub record-is : (s r : Bytes) (n : ℕ) → n ≡ lengthOf s → r ≡ take (n + 4) (drop 0 s) → r ≡ take (4 + lengthOf s) s
+record-is s r n e p = let z : n + 4 ≡ 4 + lengthOf s = omega arith in p ∙ ap (λ (x : ℕ). take x s) z
 
 -- refusal 4, test by test
 pub short-few : (s : Bytes) → length s < 6 → true ≡ short s

@@ -1,7 +1,7 @@
-// The record at the front of a slice: its length and kind, its content and what follows it, as parts of the slice. Of bytes that are
-// no record each says what its definition says, so nothing is required.
+// The record at the front of a slice: its length and kind, its own bytes, its content and what follows it, as parts of the slice.
+// Of bytes that are no record each says what its definition says, so nothing is required.
 ghost use mathlib.Core.Path.{_≡_};
-ghost use Prim.Native.Nat.{_^_, _<_, _≤_};
+ghost use Prim.Native.Nat.{_+_, _^_, _<_, _≤_};
 ghost use lib.ListN.{take, drop};
 ghost use Rattle.wire.specs.Numbers.{num};
 ghost use Rattle.records.specs.Record.{lengthOf, kindOf, contentOf, restOf};
@@ -79,4 +79,11 @@ pub fn rest(s: &[u8]) -> &[u8]
         return &s[len..];
     }
     &s[e..]
+}
+
+// The record's own bytes.
+pub fn record(s: &[u8]) -> &[u8]
+    ensures { λ r. ⌜ now r ≡ take (4 + lengthOf (now (s .entry))) (now (s .entry)) ⌝ }
+{
+    wire::part(s, 0, record_length(s) + 4)
 }

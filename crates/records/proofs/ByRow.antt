@@ -7,11 +7,11 @@ use native.Mathlib.Nat.{le-refl}
 use native.Mathlib.Omega.{arith}
 use lib.Dec.{eqb}
 use borrow.Author.Tests.{eqb-true, le-leb}
-use Rattle.records.specs.Record.{Record, Records, leaf, node, nil, _▸_, isLeaf}
+use Rattle.records.specs.Record.{Record, Records, leaf, node, nil, _▸_, isLeaf, children, is}
 use Rattle.records.specs.Kinds.{Place, one, kinds, name, seq, option, stands, rowOf, Content, bytes, these, any, atMostOne, contentAt}
 use Rattle.records.proofs.Fits.{Fits, FitsAll}
 use Rattle.records.proofs.Run.{Run, in-run, within}
-use Rattle.records.proofs.Leaves.{these-no-bytes}
+use Rattle.records.proofs.Leaves.{NodeAt, node-at, these-no-bytes}
 
 -- P of every sequence of records that fit a row
 abbrev pub Rowed : List Place → (Records → Type 0) → Type 0
@@ -44,6 +44,11 @@ row-content (kinds from to) k h s = rw (no-leaf k h)
 row-content name k h s = absurd (omega (arith, eqb-true k 0x01 s))
 row-content (seq p) k h s = absurd (omega (arith, eqb-true k 0x02 s))
 row-content (option p) k h s = absurd (omega (arith, eqb-true k 0x02 s))
+
+-- a record from kind 4 on that fits a place fits each other where its kind stands
+pub fits-there : (k : ℕ) (c : Records) (p q : Place) → 4 ≤ k → Fits (node k c) p → stands q k ≡ true → Fits (node k c) q
+unfolding Fits
+fits-there k c p q l f s = (s, subst (λ (x : Content). FitsAll c x) (row-content p k l (f .0) ∙ sym (row-content q k l s)) (f .1))
 
 -- at a place for kinds from 4 on
 abbrev pub Kinds : (Record → Type 0) → ℕ → Type 0
@@ -81,3 +86,9 @@ pub by-kind : {X : Type 0} (from n : ℕ) (r : Record) → Run (λ k. Fits r (on
 unfolding Fits contentAt
 by-kind {X} from n (leaf k b) h f = in-run (λ j. Fits (leaf k b) (one j) → X) from n h k (f .0) (rw (le-leb k k (le-refl k)), f .1)
 by-kind {X} from n (node k c) h f = in-run (λ j. Fits (node k c) (one j) → X) from n h k (f .0) (rw (le-leb k k (le-refl k)), f .1)
+
+-- at a place for several kinds, of a record whose kind is known
+pub by-is : (P : Record → Type 0) (p : Place) (k : ℕ) (ps : List Place) → contentAt p k ≡ these ps → Rowed ps (λ c. P (node k c)) → (r : Record) → Fits r p → is k r ≡ true → P r
+by-is P p k ps same h r f e =
+    let n : NodeAt r k (these ps) = node-at r p k (these ps) e same (these-no-bytes ps) f in
+    subst P (sym (n .is-node)) (by-row ps (λ c. P (node k c)) h (children r) (n .fits))

@@ -12,3 +12,4 @@ pub mod Hereditary
 pub mod Shape
 pub mod Faults
 pub mod First
+pub mod Front

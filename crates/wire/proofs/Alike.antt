@@ -1,11 +1,11 @@
--- Comparing bytes from the first to the last. Assumes nothing.
+-- Comparing bytes from the first to the last, and in two parts. Assumes nothing.
 use mathlib.Core.Path.{_≡_, refl, ap, ap₂, sym, _∙_}
-use mathlib.Core.List.{[], _∷_}
-use mathlib.Core.Bool.{Bool, true, false, _&&_}
+use mathlib.Core.List.{[], _∷_, _++_}
+use mathlib.Core.Bool.{Bool, true, false, _&&_, and-assoc}
 use Prim.Native.Nat.{ℕ, zero, suc, _+_, _<_, _≤_}
 use native.Mathlib.Omega.{arith}
 use native.Mathlib.Numerals.{add-one}
-use lib.ListN.{length, drop, getD, drop-of-length-le}
+use lib.ListN.{length, take, drop, getD, drop-of-length-le}
 use lib.Seq.{drop-cons}
 use lib.Dec.{eqb}
 use borrow.Author.Tests.{eq-eqb, ne-eqb}
@@ -21,6 +21,13 @@ other-length (x ∷ a) (y ∷ b) h = rw (← other-length a b (λ e. h (ap suc e
     never : (t : Bool) → false ≡ t && false
     never true = refl
     never false = refl
+
+-- the same is what is the same in both parts
+pub same-parts : (s h t : Bytes) → length h ≤ length s → sameBytes (take (length h) s) h && sameBytes (drop (length h) s) t ≡ sameBytes s (h ++ t)
+unfolding sameBytes
+same-parts s [] t l = refl
+same-parts [] (y ∷ h) t l = absurd (omega arith)
+same-parts (x ∷ s) (y ∷ h) t l = and-assoc (eqb x y) (sameBytes (take (length h) s) h) (sameBytes (drop (length h) s) t) ∙ ap (λ (b : Bool). eqb x y && b) (same-parts s h t (omega arith))
 
 -- the first i bytes are the same
 pub record Alike (a b : Bytes) (i : ℕ) : Type 0 where

@@ -1,3 +1,4 @@
 pub mod Numbers
 pub mod Slices
 pub mod Alike
+pub mod Within

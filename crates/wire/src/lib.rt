@@ -1,6 +1,7 @@
-// Bytes as numbers, and comparing bytes.
+// Bytes as numbers, comparing bytes, and a part of a slice.
 ghost use mathlib.Core.Path.{_≡_};
 ghost use Prim.Native.Nat.{_<_};
+ghost use lib.ListN.{take, drop};
 ghost use Rattle.wire.specs.Numbers.{sameBytes};
 
 // A byte as a number.
@@ -25,4 +26,19 @@ pub fn same(a: &[u8], b: &[u8]) -> bool
         i += 1;
     }
     true
+}
+
+// The part of s of this length from a place on, as far as s reaches.
+pub fn part(s: &[u8], from: usize, len: usize) -> &[u8]
+    ensures { λ r. ⌜ now r ≡ take len (drop from (now (s .entry))) ⌝ }
+{
+    let end = s.len();
+    if end <= from {
+        return &s[end..];
+    }
+    if end - from <= len {
+        return &s[from..];
+    }
+    let to = from + len;
+    &s[from..to]
 }

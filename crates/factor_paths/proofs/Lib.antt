@@ -9,3 +9,4 @@ pub mod Modules
 pub mod Uses
 pub mod Shapes
 pub mod SameBytes
+pub mod Collects

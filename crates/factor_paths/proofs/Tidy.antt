@@ -8,6 +8,7 @@ use borrow.Author.Tests.{eqb-true}
 use Rattle.records.specs.Record.{Record, Records, leaf, node, nil, _▸_, kind, text, children, nth, field, is}
 use Rattle.records.specs.Kinds.{Place, kinds, name, stands, path, type, expr, Content, bytes, these, any, atMostOne, rowOf, contentAt}
 use Rattle.records.proofs.Fits.{Fits, FitsAll}
+use Rattle.records.proofs.Run.{Run, in-run}
 use Rattle.records.proofs.Leaves.{fits-stands, name-right, NodeAt, node-at, these-no-bytes}
 use Rattle.records.proofs.ByRow.{row-content}
 use Rattle.records.proofs.Closed.{closed}
@@ -31,6 +32,30 @@ terms-closed = refl
 
 pub decls-closed : closed declKind ≡ true
 decls-closed = refl
+
+-- what follows from each of two tests follows from either
+pub by-either : {C : Type 0} (a b : Bool) → a || b ≡ true → (a ≡ true → C) → (b ≡ true → C) → C
+by-either true b e f g = f refl
+by-either false b e f g = g e
+
+-- to show something of the kinds that lie in types, or in types and expressions: types and expressions are known by their place alone, so that these runs need not be written out
+module _ (P : ℕ → Type 0) where
+  pub at-literal : (k₀ : ℕ) → P k₀ → (k : ℕ) → eqb k k₀ ≡ true → P k
+  at-literal k₀ h k e = subst P (sym (eqb-true k k₀ e)) h
+
+  pub by-typeKind : Run P 1 2 → Run P 0x10 3 → ((k : ℕ) → stands type k ≡ true → P k) → P 0x7E → (k : ℕ) → typeKind k ≡ true → P k
+  by-typeKind low paths types formal k e =
+      by-either (leb 1 k && leb k 3 || stands path k || stands type k) (eqb k 0x7E) e
+      (λ e. by-either (leb 1 k && leb k 3 || stands path k) (stands type k) e
+      (λ e. by-either (leb 1 k && leb k 3) (stands path k) e (in-run P 1 2 low k) (in-run P 0x10 3 paths k))
+      (types k))
+      (at-literal 0x7E formal k)
+
+  pub by-termKind : ((k : ℕ) → typeKind k ≡ true → P k) → ((k : ℕ) → stands expr k ≡ true → P k) → P 0x81 → P 0x82 → (k : ℕ) → termKind k ≡ true → P k
+  by-termKind types exprs matchCase assign k e =
+      by-either (typeKind k || stands expr k || eqb k 0x81) (eqb k 0x82) e
+      (λ e. by-either (typeKind k || stands expr k) (eqb k 0x81) e (λ e. by-either (typeKind k) (stands expr k) e (types k) (exprs k)) (at-literal 0x81 matchCase k))
+      (at-literal 0x82 assign k)
 
 -- what a path type or a path expression holds: one record of a path's kind, spelled as MSel spells it where it selects a name
 pub record PathIn (c : Records) : Type 0 where

@@ -1,9 +1,9 @@
 -- THE WRAPPING: Replace with functions that walk again, as ReplaceFn calls it, is one walk that carries a count. Assumes nothing.
-use mathlib.Core.Path.{_≡_, refl, ap, ap₂, sym, subst, _∙_}
+use mathlib.Core.Path.{_≡_, refl, ap, ap₂, sym, _∙_}
 use mathlib.Core.Bool.{Bool, true, false, _&&_, _||_, cond, false≢true}
 use mathlib.Core.Option.{Option, none, some}
 use Prim.Native.Nat.{ℕ, zero, suc}
-use lib.Dec.{eqb, leb}
+use lib.Dec.{eqb}
 use borrow.Author.Tests.{eqb-true}
 use Rattle.records.specs.Record.{Record, Records, leaf, node, nil, _▸_, kind, text, children, nth, field, is}
 use Rattle.records.specs.Kinds.{stands, path, type, expr}
@@ -17,7 +17,7 @@ use Rattle.factor_paths.specs.Mapping.{FinalReplacement}
 use Rattle.factor_paths.specs.PathsVisitor.{marked, unmarked}
 use Rattle.factor_paths.specs.Apply.{TIdentifier, TSynonym, Identifier, replaces, ReplaceTypeSingle, ReplaceExprSingle}
 use Rattle.factor_paths.specs.Walk.{Step, aType, anExpr, aFn, left, holds, stepOf, deeper, synonyms, wrap, stepped, walk, walkAll, walkFn}
-use Rattle.factor_paths.proofs.Tidy.{termKind, typeKind, PathIn, Paths, PathsAll}
+use Rattle.factor_paths.proofs.Tidy.{termKind, typeKind, by-typeKind, by-termKind, PathIn, Paths, PathsAll}
 
 -- at the kinds that lie in types and expressions, the walk takes the step that Replace's role says
 abbrev toStep : Role → Step
@@ -25,10 +25,6 @@ toStep roleType = aType
 toStep roleExpr = anExpr
 toStep roleHolds = holds
 toStep other = left
-
-either : {C : Type 0} (a b : Bool) → a || b ≡ true → (a ≡ true → C) → (b ≡ true → C) → C
-either true b e f g = f refl
-either false b e f g = g e
 
 tested : (t u : Bool) (x : Role) (y : Step) → t || u ≡ true → cond t aType (cond u anExpr y) ≡ toStep (cond t roleType (cond u roleExpr x))
 tested true u x y e = refl
@@ -46,45 +42,21 @@ or-left false b e = absurd (false≢true e)
 abbrev Same : ℕ → Type 0
 Same k = stepOf k ≡ toStep (role k)
 
-at-literal : (k₀ : ℕ) → Same k₀ → (k : ℕ) → eqb k k₀ ≡ true → Same k
-at-literal k₀ h k e = subst Same (sym (eqb-true k k₀ e)) h
-
 pub same-step : (k : ℕ) → termKind k ≡ true → Same k
-same-step k e =
-    either (typeKind k || stands expr k || eqb k 0x81) (eqb k 0x82) e
-    (λ e. either (typeKind k || stands expr k) (eqb k 0x81) e
-    (λ e. either (typeKind k) (stands expr k) e
-    (λ e. either (leb 1 k && leb k 3 || stands path k || stands type k) (eqb k 0x7E) e
-    (λ e. either (leb 1 k && leb k 3 || stands path k) (stands type k) e
-    (λ e. either (leb 1 k && leb k 3) (stands path k) e
-    (in-run Same 1 2 (refl ⨾ refl ⨾ refl) k)
-    (in-run Same 0x10 3 (refl ⨾ refl ⨾ refl ⨾ refl) k))
-    (λ e. tested (stands type k) (stands expr k) _ _ (or-left (stands type k) (stands expr k) e)))
-    (at-literal 0x7E refl k))
-    (λ e. tested (stands type k) (stands expr k) _ _ (or-right (stands type k) (stands expr k) e)))
-    (at-literal 0x81 refl k))
-    (at-literal 0x82 refl k)
+same-step =
+    by-termKind Same
+    (by-typeKind Same (refl ⨾ refl ⨾ refl) (refl ⨾ refl ⨾ refl ⨾ refl) (λ k e. tested (stands type k) (stands expr k) _ _ (or-left (stands type k) (stands expr k) e)) refl)
+    (λ k e. tested (stands type k) (stands expr k) _ _ (or-right (stands type k) (stands expr k) e)) refl refl
 
 -- in a type there is no expression
-abbrev isExpr : Role → Bool
+abbrev pub isExpr : Role → Bool
 isExpr roleType = false
 isExpr roleExpr = true
 isExpr roleHolds = false
 isExpr other = false
 
-no-expr-role : (k : ℕ) → typeKind k ≡ true → isExpr (role k) ≡ false
-no-expr-role k e =
-    either (leb 1 k && leb k 3 || stands path k || stands type k) (eqb k 0x7E) e
-    (λ e. either (leb 1 k && leb k 3 || stands path k) (stands type k) e
-    (λ e. either (leb 1 k && leb k 3) (stands path k) e
-    (in-run (λ k. isExpr (role k) ≡ false) 1 2 (refl ⨾ refl ⨾ refl) k)
-    (in-run (λ k. isExpr (role k) ≡ false) 0x10 3 (refl ⨾ refl ⨾ refl ⨾ refl) k))
-    (λ e. go (stands type k) e))
-    (λ e. subst (λ (k : ℕ). isExpr (role k) ≡ false) (sym (eqb-true k 0x7E e)) refl)
-  where
-    go : (t : Bool) → t ≡ true → isExpr (cond t roleType (cond (stands expr k) roleExpr (cond (eqb k 0x02 || eqb k 0x7E || eqb k 0x81 || eqb k 0x82) roleHolds other))) ≡ false
-    go true e = refl
-    go false e = absurd (false≢true e)
+pub no-expr-role : (k : ℕ) → typeKind k ≡ true → isExpr (role k) ≡ false
+no-expr-role = by-typeKind (λ k. isExpr (role k) ≡ false) (refl ⨾ refl ⨾ refl) (refl ⨾ refl ⨾ refl ⨾ refl) (λ k e. rw e) refl
 
 -- one wrapping more outside is one more inside
 pub deeper-suc : (a : Bool) (w : ℕ) → suc (deeper a w) ≡ deeper a (suc w)

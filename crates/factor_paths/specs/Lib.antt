@@ -3,3 +3,4 @@ pub mod PathsVisitor
 pub mod Apply
 pub mod Walk
 pub mod LookUp
+pub mod Collects

@@ -1,13 +1,13 @@
 -- What an acceptance says of what was lent, and of what is put out. Assumes nothing.
 use mathlib.Core.Path.{_≡_, refl, ap, sym, _∙_}
 use mathlib.Core.List.{List, _++_}
-use mathlib.Core.Bool.{Bool, true, false, not, _&&_, cond, false≢true}
-use mathlib.Core.Option.{Option, none, some}
+use mathlib.Core.Bool.{true, false, false≢true}
+use mathlib.Core.Option.{none}
 use Prim.Native.Nat.{ℕ, _≤_}
 use native.Mathlib.Omega.{arith}
 use lib.ListN.{length, drop, replicate}
 use lib.Dec.{leb, ltb}
-use borrow.Author.Tests.{ltb-false, leb-true, not-false}
+use borrow.Author.Tests.{ltb-false, leb-true}
 use Rattle.answers.specs.Answers.{number, value}
 use Rattle.answers.specs.declared.Answer.{Answer}
 use Rattle.answers.specs.declared.Answer.the-variants.{Shortened, ShortWork, LongCard, BadRoot, ShortRecord, WrongKind, TooDeep, LeftOver, FullTable, NoSpace}
@@ -19,12 +19,12 @@ use Rattle.records.specs.Kinds.{path}
 use Rattle.records.specs.Reading.{reading}
 use Rattle.records.proofs.Run.{both}
 use Rattle.records.proofs.Faults.{fault, fair, reading-fair}
-use Rattle.rast.specs.Path.{MSel, whether}
+use Rattle.rast.specs.Path.{MSel}
 use Rattle.rast.specs.Operation.{Operation}
 use Rattle.rast.specs.Mod.{nameOf}
 use Rattle.rast.proofs.Tests.{by-test, by-option}
 use Rattle.outcome.specs.FullTable.{fullTable}
-use Rattle.outcome.specs.Outcome.{Outcome, isSound, goodRoot, admitted, output, written, shortened, afterReading, shorten}
+use Rattle.outcome.specs.Outcome.{Outcome, isSound, goodRoot, admitted, output, afterReading, shorten}
 
 pub record Accepted (op : Operation) (card root out : Bytes) (work : List ℕ) (n : ℕ) : Type 0 where
   pub words : op .fewestWords ≤ length work
@@ -57,6 +57,33 @@ faulty (TooDeep n) e z = omega arith
 faulty (LeftOver n) e z = omega arith
 faulty (FullTable n) e z = absurd (false≢true e)
 faulty NoSpace e z = absurd (false≢true e)
+
+-- a card that is admitted
+pub record Admitted (op : Operation) (card root : Bytes) (words : ℕ) : Type 0 where
+  pub enough : op .fewestWords ≤ words
+  pub card-length : length card ≤ op .mostCardBytes
+  pub root-length : length root ≤ op .mostRootBytes
+  pub root-sound : reading (op .rootDepth) path root ≡ Sound
+  pub card-sound : reading (op .cardDepth) (op .outermost) card ≡ Sound
+
+pub admitted-sound : (op : Operation) (card root : Bytes) (words : ℕ) → admitted op card root words ≡ Sound → Admitted op card root words
+unfolding admitted
+admitted-sound op card root words h =
+    by-test (ltb words (op .fewestWords)) (λ a. not-refused (rw a at h))
+    (λ a. by-test (ltb (op .mostCardBytes) (length card)) (λ b. not-refused (rw (a, b) at h))
+    (λ b. by-test (goodRoot op root)
+    (λ g. let r = both (leb (length root) (op .mostRootBytes)) (isSound (reading (op .rootDepth) path root)) g in
+    record {
+      enough = ltb-false words (op .fewestWords) a;
+      card-length = ltb-false (op .mostCardBytes) (length card) b;
+      root-length = leb-true (length root) (op .mostRootBytes) (r .0);
+      root-sound = is-sound (reading (op .rootDepth) path root) (r .1);
+      card-sound = rw (a, b, g) at h;
+    })
+    (λ g. not-refused (rw (a, b, g) at h))))
+  where
+    not-refused : {a : Answer} → Refused a ≡ Sound → Admitted op card root words
+    not-refused z = absurd (false≢true (ap isSound z))
 
 module _ (op : Operation) (card root out : Bytes) (work : List ℕ) (n : ℕ) where
   abbrev made : Outcome

@@ -19,7 +19,8 @@ use Rattle.rast.specs.Operation.{upstream}
 use Rattle.outcome.specs.Outcome.{goodRoot, admitted}
 use Rattle.reading_c.specs.Packed.{packed}
 
-number-small : (a : Answer) → number a ≤ 9
+-- every number is one of 0 to 9
+pub number-small : (a : Answer) → number a ≤ 9
 number-small (Shortened n) = omega arith
 number-small ShortWork = omega arith
 number-small LongCard = omega arith
@@ -31,7 +32,8 @@ number-small (LeftOver n) = omega arith
 number-small (FullTable n) = omega arith
 number-small NoSpace = omega arith
 
-abbrev place : Verdict → ℕ
+-- the place of a refusal
+abbrev pub place : Verdict → ℕ
 place Sound = 0
 place (Refused a) = value a
 
@@ -44,7 +46,8 @@ picked : (m : ℕ) (t : Bool) (v w : Verdict) → place v ≤ m → (t ≡ false
 picked m true v w p q = p
 picked m false v w p q = q refl
 
-admitted-place : (card root : Bytes) (words : ℕ) → place (admitted upstream card root words) ≤ 32768
+-- it is within the longest card
+pub admitted-place : (card root : Bytes) (words : ℕ) → place (admitted upstream card root words) ≤ 32768
 unfolding admitted
 admitted-place card root words =
     picked 32768 (ltb words 2048) _ _ (omega arith)

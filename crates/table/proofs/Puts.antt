@@ -1,9 +1,9 @@
 -- Putting a pair into the table is adding it to the mapping. Assumes nothing.
-use mathlib.Core.Path.{_≡_, refl, ap, ap₂, sym, subst, _∙_}
+use mathlib.Core.Path.{_≡_, refl, ap, sym, subst, _∙_}
 use mathlib.Core.List.{List, [], _∷_, _++_, append-nil, append-assoc}
-use mathlib.Core.Bool.{Bool, true, false, cond, false≢true}
+use mathlib.Core.Bool.{true, false, cond, false≢true}
 use mathlib.Core.Option.{Option, none, some, Option·some-injective}
-use Prim.Native.Nat.{ℕ, zero, suc, _+_}
+use Prim.Native.Nat.{ℕ, _+_}
 use native.Mathlib.Omega.{arith}
 use lib.ListN.{length, length-append}
 use Rattle.rast.specs.Path.{Name, Path, whether}
@@ -13,7 +13,7 @@ use Rattle.rast.proofs.Tests.{by-test, by-option}
 use Rattle.factor_paths.specs.Mapping.{Entry, entry, Mapping, noMapping, Provenance, get, set, _among_, include, Add, ToFinalReplacement, pairs}
 use Rattle.factor_paths.proofs.Final.{chosen, get-final}
 use Rattle.factor_paths.proofs.Mappings.{Good, add-get, add-keys}
-use Rattle.table.specs.Pairs.{Pair, pair, listed, basesOf, put, addAll, namesAfter}
+use Rattle.table.specs.Pairs.{Pair, pair, listed, basesOf, put, addAll, namesAfter, Is}
 
 module _ (op : Operation) where
   -- setting what a name has changes nothing
@@ -69,14 +69,7 @@ module _ (op : Operation) where
     bases-same [] k n h = refl
     bases-same (p ∷ t) k n h = rw (alike-right N k n (p .name) h, bases-same t k n h)
 
-    -- a table is a mapping: the same is added, as many pairs, the same names in the same order, and each name has the bases that stand with it
-    pub record Is (t : List Pair) (m : Mapping) : Type 0 where
-      pub added : addAll op noMapping t ≡ m
-      pub count : pairs (m .provenance) ≡ length t
-      pub names : m .keys ≡ namesAfter op [] t
-      pub bases : (n : Name) → get op n (m .provenance) ≡ listed (basesOf op t n)
-
-    pub none-is : Is [] noMapping
+    pub none-is : Is op [] noMapping
     unfolding addAll pairs get basesOf namesAfter
     none-is = record { added = refl; count = refl; names = refl; bases = λ n. refl }
 
@@ -102,11 +95,11 @@ module _ (op : Operation) where
         rw (g, a) (let e = set-old k ((c ∷ bs) ++ (b ∷ [])) (c ∷ bs) (m .provenance) g in let l : length ((c ∷ bs) ++ (b ∷ [])) ≡ length (c ∷ bs) + 1 = length-append (c ∷ bs) (b ∷ []) in omega arith)
 
     -- a pair that is there
-    old-is : (t : List Pair) (m : Mapping) (k : Name) (b : Path) → Is t m → _among_ op b (basesOf op t k) ≡ true → Is t (Add op m k b)
-    old-is t m k b i a = subst (Is t) (sym (again m k b (basesOf op t k) (i .bases k ∙ listed-some b (basesOf op t k) a) a)) i
+    old-is : (t : List Pair) (m : Mapping) (k : Name) (b : Path) → Is op t m → _among_ op b (basesOf op t k) ≡ true → Is op t (Add op m k b)
+    old-is t m k b i a = subst (Is op t) (sym (again m k b (basesOf op t k) (i .bases k ∙ listed-some b (basesOf op t k) a) a)) i
 
     -- a new one
-    new-is : (t : List Pair) (m : Mapping) (k : Name) (b : Path) → Is t m → _among_ op b (basesOf op t k) ≡ false → Is (t ++ (pair k b ∷ [])) (Add op m k b)
+    new-is : (t : List Pair) (m : Mapping) (k : Name) (b : Path) → Is op t m → _among_ op b (basesOf op t k) ≡ false → Is op (t ++ (pair k b ∷ [])) (Add op m k b)
     new-is t m k b i a =
         record {
           added = add-last noMapping t k b ∙ ap (λ (x : Mapping). Add op x k b) (i .added);
@@ -117,10 +110,10 @@ module _ (op : Operation) where
               (λ h. rw (h, bases-last t k b n, h) (i .bases n)));
         }
 
-    pub put-is : (t : List Pair) (m : Mapping) (k : Name) (b : Path) → Is t m → Is (put op t k b) (Add op m k b)
+    pub put-is : (t : List Pair) (m : Mapping) (k : Name) (b : Path) → Is op t m → Is op (put op t k b) (Add op m k b)
     unfolding put
     put-is t m k b i = by-test (_among_ op b (basesOf op t k)) (λ a. rw a (old-is t m k b i a)) (λ a. rw a (new-is t m k b i a))
 
     -- the base chosen for a name, by the bases that stand with it
-    pub chosen-is : (t : List Pair) (m : Mapping) (S : Path) (n : Name) → Is t m → Good op m → get op n (ToFinalReplacement op (m .provenance) S) ≡ whether (listed (basesOf op t n)) none (λ bs. chosen op S bs)
+    pub chosen-is : (t : List Pair) (m : Mapping) (S : Path) (n : Name) → Is op t m → Good op m → get op n (ToFinalReplacement op (m .provenance) S) ≡ whether (listed (basesOf op t n)) none (λ bs. chosen op S bs)
     chosen-is t m S n i g = get-final op N n (m .provenance) S (g .apart) ∙ ap (λ (o : Option (List Path)). whether o none (λ bs. chosen op S bs)) (i .bases n)

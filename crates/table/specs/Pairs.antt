@@ -1,10 +1,12 @@
 -- A module's mapping as a table has it: pairs of name and base, in the order in which they were first collected. Assumes nothing: these are definitions.
+use mathlib.Core.Path.{_≡_}
 use mathlib.Core.List.{List, [], _∷_, _++_}
 use mathlib.Core.Bool.{cond}
 use mathlib.Core.Option.{Option, none, some}
+use lib.ListN.{length}
 use Rattle.rast.specs.Path.{Name, Path, whether}
 use Rattle.rast.specs.Operation.{Operation}
-use Rattle.factor_paths.specs.Mapping.{Mapping, Add, _among_}
+use Rattle.factor_paths.specs.Mapping.{Mapping, noMapping, Add, get, pairs, _among_}
 
 pub record Pair : Type 0 where
   pub name : Name
@@ -39,3 +41,10 @@ module _ (op : Operation) where
   namesAfter ahead (p ∷ t) =
       let others : List Name = namesAfter (ahead ++ (p ∷ [])) t in
       whether (listed (basesOf ahead (p .name))) (p .name ∷ others) (λ bs. others)
+
+  -- pairs are a mapping: adding them gives it, it counts as many, has their names in their order, and each name has the bases that stand with it
+  pub record Is (t : List Pair) (m : Mapping) : Type 0 where
+    pub added : addAll noMapping t ≡ m
+    pub count : pairs (m .provenance) ≡ length t
+    pub names : m .keys ≡ namesAfter [] t
+    pub bases : (n : Name) → get op n (m .provenance) ≡ listed (basesOf t n)

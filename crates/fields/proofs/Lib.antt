@@ -1,0 +1,3 @@
+pub mod Offsets
+pub mod Entered
+pub mod Declared

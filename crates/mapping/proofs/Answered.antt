@@ -1,0 +1,133 @@
+-- The outermost module: what is answered, by what admission and collecting say. Assumes nothing.
+use mathlib.Core.Path.{_≡_, refl, ap, sym, subst, _∙_}
+use mathlib.Core.List.{List, [], _∷_, _++_, append-nil}
+use Prim.Native.Nat.{ℕ, suc, _+_, _<_, _≤_}
+use native.Mathlib.Omega.{arith}
+use lib.ListN.{length, take, drop, getD, replicate, length-take, length-drop, length-append}
+use borrow.Author.Tests.{lt-ltb, le-ltb}
+use Rattle.answers.specs.declared.Answer.{Answer}
+use Rattle.answers.specs.declared.Answer.the-variants.{FullTable}
+use Rattle.answers.specs.declared.Verdict.{Verdict}
+use Rattle.answers.specs.declared.Verdict.the-variants.{Sound, Refused}
+use Rattle.wire.specs.Numbers.{Bytes, AreBytes}
+use Rattle.records.specs.Record.{leaf, encode, lengthOf, tree}
+use Rattle.records.specs.Kinds.{path, mod′}
+use Rattle.records.proofs.Tree.{Canonical, record-length}
+use Rattle.records.proofs.Sound.{ReadsAs, sound-reads}
+use Rattle.rast.specs.Operation.{upstream}
+use Rattle.rast.specs.Mod.{nameOf}
+use Rattle.factor_paths.specs.Mapping.{pairs}
+use Rattle.outcome.specs.Outcome.{admitted}
+use Rattle.outcome.proofs.Accepted.{Admitted, admitted-sound}
+use Rattle.prefix.specs.Prefix.{recordAt, prefixOf}
+use Rattle.prefix.proofs.Nested.{outermost-prefix}
+use Rattle.table.specs.Words.{Stored, pairsIn, Has}
+use Rattle.table.specs.Means.{Means}
+use Rattle.table.proofs.Means.{means-count}
+use Rattle.table.proofs.Stores.{pairs-ahead}
+use Rattle.fields.specs.Fields.{nameAt, namePlace}
+use Rattle.collecting.specs.Gathers.{gathered}
+use Rattle.collecting.proofs.Parts.{Starts}
+use Rattle.collecting.proofs.Mapped.{name-record, selected-canonical, module-means}
+use Rattle.mapping.specs.Outermost.{outermostPrefix, outermostMapping, collected, Leaves}
+use Rattle.mapping.specs.declared.Collected.{Collected}
+use Rattle.mapping.specs.declared.Collected.the-variants.{Pairs, Refusal}
+
+pub are-bytes : (s : Bytes) → ((i : ℕ) → getD s i 0 < 256) → AreBytes s
+unfolding AreBytes
+are-bytes [] h = tt
+are-bytes (b ∷ s) h = (h 0, are-bytes s (λ i. h (suc i)))
+
+module _ (card root : Bytes) (work : List ℕ) (v : Verdict) (e : v ≡ admitted upstream card root (length work)) where
+  -- what is answered, and what the words are then
+  abbrev Answered : List ℕ → Collected → Type 0
+  Answered work′ c = (c ≡ collected card root (length work)) × Leaves card root work work′ (admitted upstream card root (length work)) c
+
+  pub refused : (a : Answer) → v ≡ Refused a → Answered work (Refusal a)
+  unfolding collected
+  refused a h = rw (← e, h) (refl, refl)
+
+  module _ (h : v ≡ Sound) where
+    sound : Admitted upstream card root (length work)
+    sound = admitted-sound upstream card root (length work) (sym e ∙ h)
+
+    pub enough : 2048 ≤ length work
+    enough = sound .enough
+
+    pub lent : 2048 ≡ length (take 2048 work)
+    lent = let a = length-take 2048 work in let b = enough in omega arith
+
+    module _ (bc : (i : ℕ) → getD card i 0 < 256) (br : (i : ℕ) → getD root i 0 < 256) (o : ℕ) (p : o ≡ namePlace card 0) where
+      is-card : ReadsAs 48 mod′ card (tree card)
+      is-card = sound-reads 48 mod′ card (are-bytes card bc) (sound .card-sound)
+
+      is-root : ReadsAs 8 path root (tree root)
+      is-root = sound-reads 8 path root (are-bytes root br) (sound .root-sound)
+
+      starts : Starts card 0 (tree card)
+      starts = record { after = []; is = sym (append-nil (encode (tree card)) ∙ is-card .encoded) }
+
+      named : recordAt card (0 + nameAt 0x62 card) ≡ encode (leaf 0x01 (nameOf (tree card)))
+      named = name-record card 0 (tree card) starts (is-card .fits) (is-card .canonical)
+
+      short-name : length (nameOf (tree card)) + 6 ≤ length card
+      unfolding encode
+      short-name =
+          let a = record-length 0x01 (nameOf (tree card)) in
+          let b : length (recordAt card (0 + nameAt 0x62 card)) ≡ length (encode (leaf 0x01 (nameOf (tree card)))) = ap length named in
+          let t = length-take (4 + lengthOf (drop (0 + nameAt 0x62 card) card)) (drop (0 + nameAt 0x62 card) card) in
+          let d = length-drop (0 + nameAt 0x62 card) card in
+          omega arith
+
+      placed : o ≡ 0 + nameAt 0x62 card
+      unfolding namePlace
+      placed = p ∙ (let l = short-name in rw (lt-ltb 0 (length card) (omega arith)))
+
+      abbrev P : Bytes
+      P = prefixOf card root (o ∷ [])
+
+      prefix-is : P ≡ encode (outermostPrefix card root)
+      prefix-is = outermost-prefix card root o (nameOf (tree card)) (ap (recordAt card) placed ∙ named) (tree root) (sym (is-root .encoded))
+
+      canonical : Canonical (outermostPrefix card root)
+      canonical =
+          let a : length (encode (tree root)) ≡ length root = ap length (is-root .encoded) in
+          let b = sound .root-length in
+          let c = sound .card-length in
+          let d = short-name in
+          selected-canonical (tree root) (nameOf (tree card)) (is-root .canonical) (omega arith)
+
+      means : Means (gathered P 48 card 0) (outermostMapping card root)
+      means = module-means card 0 (tree card) starts (is-card .fits) (is-card .canonical) 48 (is-card .shallow) (let c = sound .card-length in omega arith) P (outermostPrefix card root) canonical prefix-is
+
+      count : length (gathered P 48 card 0) ≡ pairs (outermostMapping card root .provenance)
+      count = means-count (gathered P 48 card 0) (outermostMapping card root) means
+
+      module _ (part′ : List ℕ) (n : ℕ) (q : (length part′ ≡ length (take 2048 work)) × Has card P part′ n (gathered P 48 card 0)) where
+        long : length part′ ≡ 2048
+        long = q .0 ∙ sym lent
+
+        pub full : 512 < n → (work′ : List ℕ) → work′ ≡ replicate (length (part′ ++ drop 2048 work)) 0 → Answered work′ (Refusal (FullTable 0))
+        unfolding collected
+        full l work′ z =
+            let a = long in
+            let b = q .1 .count in
+            let c = count in
+            let d = length-append part′ (drop 2048 work) in
+            let g = length-drop 2048 work in
+            let m = enough in
+            rw (← e, h, lt-ltb 512 (pairs (outermostMapping card root .provenance)) (omega arith)) (refl, z ∙ ap (λ (k : ℕ). replicate k 0) (let w : length (part′ ++ drop 2048 work) ≡ length work = omega arith in w))
+
+        pub some : n ≤ 512 → Answered (part′ ++ drop 2048 work) (Pairs n)
+        unfolding collected
+        some l =
+            let a = long in
+            let b = q .1 .count in
+            let c = count in
+            let d = length-append part′ (drop 2048 work) in
+            let g = length-drop 2048 work in
+            let m = enough in
+            let k : pairs (outermostMapping card root .provenance) ≡ n = omega arith in
+            let same : pairsIn card (encode (outermostPrefix card root)) (part′ ++ drop 2048 work) n ≡ gathered P 48 card 0 =
+            ap (λ (x : Bytes). pairsIn card x (part′ ++ drop 2048 work) n) (sym prefix-is) ∙ pairs-ahead card P part′ (drop 2048 work) 0 n (omega arith) ∙ q .1 .pairs (omega arith) in
+            rw (← e, h, k, le-ltb 512 n l) (refl, (omega arith, subst (λ (t : List Stored). Means t (outermostMapping card root)) (sym same) means))

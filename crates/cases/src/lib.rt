@@ -1,9 +1,16 @@
-// What a program that reads cases from lines of text is made of: the ends of a line's fields, and what hexadecimal and decimal digits say.
-// Nothing is required: where a digit is none, or there is no room, each function stops there.
+// What a program that reads cases from lines of text is made of: room for the text, the ends of a line's fields, and what hexadecimal and
+// decimal digits say. Nothing is required: where a digit is none, or there is no room, each function stops there.
 ghost use mathlib.Core.Path.{_≡_};
 ghost use Prim.Native.Nat.{_+_, _≤_};
-ghost use lib.ListN.{take, drop};
+ghost use lib.ListN.{length, take, drop};
 ghost use Rattle.cases.specs.Text.{FirstAt, hexValue, hexFirst, Decoded, decimalOf};
+
+// Room for the whole text.
+pub fn room() -> [u8; 2000000]
+    ensures { λ r. ⌜ 2000000 ≡ length r ⌝ }
+{
+    [0; 2000000]
+}
 
 // The place of the first byte b of s: the end of a field or of a line; s's length where it has none.
 pub fn find(s: &[u8], b: u8) -> usize

@@ -4,8 +4,6 @@ use answers::Verdict;
 use libc::STDERR_FILENO;
 use libc::STDIN_FILENO;
 use libc::STDOUT_FILENO;
-ghost use mathlib.Core.Path.{_≡_};
-ghost use lib.ListN.{length};
 
 fn say(v: Verdict) {
     match v {
@@ -52,15 +50,8 @@ fn lines(text: &[u8]) {
     }
 }
 
-// Room for the whole text.
-fn room() -> [u8; 2000000]
-    ensures { λ r. ⌜ 2000000 ≡ length r ⌝ }
-{
-    [0; 2000000]
-}
-
 fn main() {
-    let mut text = room();
+    let mut text = cases::room();
     let n = io::read_full(STDIN_FILENO, &mut text);
     if n == 0 {
         io::write_all(

@@ -1,9 +1,9 @@
--- `read_cases::room` is as long as it says. Assumes nothing.
+-- `cases::room` is as long as it says. Assumes nothing.
 use mathlib.Core.Path.{sym}
 use Prim.Native.Nat.{ℕ}
 use lib.ListN.{length-replicate}
-use Rattle.read_cases.proofs.room.Statement.{statement}
-use Rattle.read_cases.proofs.room.Tie as tie
+use Rattle.cases.proofs.room.Statement.{statement}
+use Rattle.cases.proofs.room.Tie as tie
 
 returns : tie.Need-returns
 returns c = sym (length-replicate {0} {A = ℕ} 2000000 0)

@@ -1,0 +1,90 @@
+//! Writes the cases of the test, one to a line: ROOT CARD WORDS. They are the cards of own.rs and
+//! as many vectors as fit, in their order.
+use std::cmp::Reverse;
+use std::collections::{BTreeMap, HashSet};
+use std::process::ExitCode;
+use yardstick::collect::count;
+use yardstick::own;
+use yardstick::text::{self, digits};
+
+/// The most bytes of all cases.
+const ROOM: usize = 1_195_000;
+
+/// How many vectors of a refusal are taken, the shortest first.
+fn wanted(number: u32) -> usize {
+    match number {
+        2 | 8 => 1,
+        _ => 15,
+    }
+}
+
+fn line(root: &[u8], card: &[u8], words: usize) -> String {
+    format!("{} {} {words}\n", digits(root), digits(card))
+}
+
+fn main() -> ExitCode {
+    let vectors = match text::vectors() {
+        Ok(vectors) => vectors,
+        Err(e) => {
+            eprintln!("{e}");
+            return ExitCode::from(2);
+        }
+    };
+    let mut sorts: BTreeMap<String, usize> = BTreeMap::new();
+    let mut seen = HashSet::new();
+    let mut lines = Vec::new();
+    for case in own::cases() {
+        let line = line(&case.root, &case.card, case.words);
+        if seen.insert(line.clone()) {
+            *sorts.entry(format!("own: {}", case.sort)).or_default() += 1;
+            lines.push(line);
+        }
+    }
+    let mut room = ROOM - lines.iter().map(String::len).sum::<usize>();
+
+    let mut rest = Vec::new();
+    for (i, v) in vectors.iter().enumerate() {
+        let line = line(&v.root, &v.card, v.words);
+        if seen.insert(line.clone()) {
+            rest.push((i, line, count(&v.card, &v.root, v.words)));
+        }
+    }
+    rest.sort_by_key(|(_, line, _)| line.len());
+    let mut most: Vec<usize> = rest.iter().flat_map(|(_, _, answer)| *answer).collect();
+    most.sort_by_key(|&pairs| Reverse(pairs));
+
+    // First the refused and the ten with most pairs, then all others, the shortest first.
+    let mut ranked = Vec::new();
+    let mut refused = BTreeMap::new();
+    for (i, line, answer) in rest {
+        match answer {
+            Ok(pairs) => ranked.push((pairs < most[9], i, line, "vectors: accepted".to_string())),
+            Err(refusal) => {
+                let so_far = refused.entry(refusal.number).or_insert(0);
+                *so_far += 1;
+                if *so_far <= wanted(refusal.number) {
+                    ranked.push((false, i, line, format!("vectors: refused by {}", refusal.number)));
+                }
+            }
+        }
+    }
+    ranked.sort_by_key(|&(last, ..)| last);
+    let ranks = ranked.len();
+    ranked.retain(|(_, _, line, _)| {
+        let fits = line.len() <= room;
+        room -= if fits { line.len() } else { 0 };
+        fits
+    });
+    let left = ranks - ranked.len();
+    ranked.sort_by_key(|&(_, i, ..)| i);
+    for (_, _, line, sort) in ranked {
+        *sorts.entry(sort).or_default() += 1;
+        lines.push(line);
+    }
+    for (sort, count) in &sorts {
+        eprintln!("{count:5}  {sort}");
+    }
+    eprintln!("{:5}  in all; {left} accepted vectors don't fit", lines.len());
+    print!("{}", lines.concat());
+    ExitCode::SUCCESS
+}

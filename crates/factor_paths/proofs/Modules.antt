@@ -1,12 +1,11 @@
 -- applyPrefix of a module, as the one walk has it: its uses, then its declarations walked. Assumes nothing.
 use mathlib.Core.Path.{_≡_, refl, ap, ap₂, sym, subst, _∙_}
-use mathlib.Core.Bool.{true, cond}
+use mathlib.Core.Bool.{true}
 use Prim.Native.Nat.{ℕ, zero, suc}
 use lib.Dec.{lit≤}
-use Rattle.records.specs.Record.{Record, Records, leaf, node, nil, _▸_, _▸▸_, children, FoldLeft, mapAll, setNth, nth, update, put}
-use Rattle.records.specs.Kinds.{kinds, one, seq, any, rowOf}
+use Rattle.records.specs.Record.{Record, Records, node, nil, _▸_, _▸▸_, children, FoldLeft, mapAll, setNth, nth, update, put}
+use Rattle.records.specs.Kinds.{kinds, one, any, rowOf}
 use Rattle.records.proofs.Fits.{Fits, FitsAll}
-use Rattle.records.proofs.Run.{_⨾_}
 use Rattle.records.proofs.ByRow.{by-kinds, by-seq, seq-node}
 use Rattle.rast.specs.Path.{Path}
 use Rattle.rast.specs.Operation.{Operation}

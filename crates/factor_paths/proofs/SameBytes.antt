@@ -1,5 +1,5 @@
 -- 01, "Points and looking up": paths are the same when their records' bytes are. Assumes nothing.
-use mathlib.Core.Path.{_≡_, refl, ap, subst}
+use mathlib.Core.Path.{_≡_, ap, subst}
 use mathlib.Core.Bool.{true}
 use Rattle.records.specs.Record.{encode}
 use Rattle.records.proofs.Tree.{Canonical, encode-injective}

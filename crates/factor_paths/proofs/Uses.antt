@@ -13,7 +13,7 @@ use Rattle.rast.specs.Operation.{Operation, upstream}
 use Rattle.rast.specs.Mod.{Mod·Fold}
 use Rattle.rast.specs.Visitor.{VisitModMapping, VisitMod}
 use Rattle.rast.proofs.Tests.{by-test, by-option, there-is}
-use Rattle.rast.proofs.Names.{Names, turned, paths, selected-same, upstream-names}
+use Rattle.rast.proofs.Names.{Names, turned, paths, selected-same}
 use Rattle.rast.proofs.Keeps.{modules-keep, VisitModMapping-keeps}
 use Rattle.factor_paths.specs.Mapping.{Entry, Mapping, noMapping, Add, FinalReplacement, equal, useDecl, get, ToUseStatements}
 use Rattle.factor_paths.specs.PathsVisitor.{marked, VisitModDeclSingle, PathsVisitor}

@@ -1,13 +1,12 @@
 -- The replacer with PathSimplifier, over a declaration, is the one walk. Assumes nothing.
 use mathlib.Core.Path.{_≡_, refl, ap, ap₂, sym, subst, _∙_}
-use mathlib.Core.List.{List, [], _∷_}
-use mathlib.Core.Bool.{Bool, true, false, _&&_, cond, false≢true}
+use mathlib.Core.Bool.{Bool, true, false, cond}
 use Prim.Native.Nat.{ℕ, _≤_}
-use lib.Dec.{eqb, leb, lit≤}
-use Rattle.records.specs.Record.{Record, Records, leaf, node, nil, _▸_, text, setNth, mapAll, Map, update}
-use Rattle.records.specs.Kinds.{Place, kinds, one, seq, option, stands, path, type, expr, rowOf, any, contentAt}
+use lib.Dec.{lit≤}
+use Rattle.records.specs.Record.{Record, Records, node, nil, _▸_, setNth, mapAll, Map, update}
+use Rattle.records.specs.Kinds.{Place, kinds, one, seq, option, type, expr, rowOf, any, contentAt}
 use Rattle.records.proofs.Fits.{Fits, FitsAll}
-use Rattle.records.proofs.Closed.{Of, fits-of}
+use Rattle.records.proofs.Closed.{fits-of}
 use Rattle.records.proofs.Run.{_⨾_}
 use Rattle.records.proofs.Leaves.{leaf-right, one-kind}
 use Rattle.records.proofs.ByRow.{Kinds, by-kinds, by-seq, seq-node, option-node}
@@ -18,7 +17,7 @@ use Rattle.rast.specs.Replacer.{RASTBottomUpReplacer, ReplaceType, ReplaceExpr,
 use Rattle.factor_paths.specs.Mapping.{FinalReplacement}
 use Rattle.factor_paths.specs.Apply.{ReplaceTypeSingle, ReplaceExprSingle, PathSimplifier}
 use Rattle.factor_paths.specs.Walk.{walk, walkAll, walkDecl}
-use Rattle.factor_paths.proofs.Tidy.{typeKind, termKind, types-closed, terms-closed, Paths, fits-paths}
+use Rattle.factor_paths.proofs.Tidy.{typeKind, termKind, types-closed, terms-closed, fits-paths}
 use Rattle.factor_paths.proofs.Wraps.{type-alone, once, again, same-keeps}
 
 module _ (op : Operation) (rep : FinalReplacement) (a : Bool) (w : ℕ) where

@@ -5,7 +5,7 @@ use mathlib.Core.Option.{Option, none, some}
 use Prim.Native.Nat.{ℕ, zero, suc}
 use lib.Dec.{eqb}
 use borrow.Author.Tests.{eqb-true}
-use Rattle.records.specs.Record.{Record, Records, leaf, node, nil, _▸_, kind, text, children, nth, field, is}
+use Rattle.records.specs.Record.{Record, Records, leaf, node, nil, _▸_, kind, nth}
 use Rattle.records.specs.Kinds.{stands, path, type, expr}
 use Rattle.records.proofs.Run.{in-run, _⨾_}
 use Rattle.records.proofs.Closed.{Of, OfAll}
@@ -16,7 +16,7 @@ use Rattle.rast.specs.Replace.{Replace, ReplaceParts, mapped}
 use Rattle.factor_paths.specs.Mapping.{FinalReplacement}
 use Rattle.factor_paths.specs.PathsVisitor.{marked, unmarked}
 use Rattle.factor_paths.specs.Apply.{TIdentifier, TSynonym, Identifier, replaces, ReplaceTypeSingle, ReplaceExprSingle}
-use Rattle.factor_paths.specs.Walk.{Step, aType, anExpr, aFn, left, holds, stepOf, deeper, synonyms, wrap, stepped, walk, walkAll, walkFn}
+use Rattle.factor_paths.specs.Walk.{Step, aType, anExpr, left, holds, stepOf, deeper, synonyms, wrap, stepped, walk, walkAll, walkFn}
 use Rattle.factor_paths.proofs.Tidy.{termKind, typeKind, by-typeKind, by-termKind, PathIn, Paths, PathsAll}
 
 -- at the kinds that lie in types and expressions, the walk takes the step that Replace's role says

@@ -3,7 +3,7 @@ use mathlib.Core.Path.{_≡_, refl, ap, _∙_}
 use mathlib.Core.List.{List, [], _∷_}
 use mathlib.Core.Option.{Option, none, some}
 use mathlib.Core.Bool.{false}
-use Rattle.records.specs.Record.{Record, Records, leaf, node, nil, _▸_}
+use Rattle.records.specs.Record.{Record}
 use Rattle.rast.specs.Fold.{Fold, FoldParts}
 use Rattle.mirror.specs.Rast.{string, Path, Global, Crate, Self, PMemberSelect, «Type», U8, U16, U32, U64, U128, I8, I16, I32, I64, I128, USIZE, Bool, TIdentifier, TypeFromPath, TypeApp, Borrowed, BorrowedMut, ImplType, DynType, TupleType, FnType, IntersectionType, Array, TSynonym, TMetaData, Types, []ᵗ, _∷ᵗ_, Formal, Formal′}
 use Rattle.mirror.specs.Rast.{Expr, RawExpr, ExprFromType, Identifier, Match, StmtExpr, Block, StructBuild, Tuple, UnaryOp, BinaryOp, TypeAscription, TraitCast, LiteralInt, LiteralBool, LiteralString, DeclareVar, Assign, IfExpr, Loop, For, Labelled, Break, Continue, Return, CallType, Call, Select, SelectIndex, ExprFromPath, FunctionSelect, Lambda}
@@ -11,7 +11,7 @@ use Rattle.mirror.specs.Rast.{Exprs, []ᵉ, _∷ᵉ_, OptExpr, None, Som
 use Rattle.mirror.specs.Fold.{Expr·Fold, Exprs·Fold, OptExpr·Fold, MatchCase·Fold, MatchCases·Fold, AssignIdentifier·Fold, AssignIdentifiers·Fold}
 use Rattle.mirror.specs.Tree.{Expr·tree, Exprs·trees, OptExpr·tree, MatchCase·tree, MatchCases·trees, AssignIdentifier·tree, AssignIdentifiers·trees}
 use Rattle.mirror.specs.Fold.{FoldLeft, FoldTypes, ifSome, Type·Fold, Types·Fold, Formal·Fold}
-use Rattle.mirror.specs.Tree.{text, kept, list, trees, seq, option, Path·tree, Type·tree, Types·trees, Formal·tree}
+use Rattle.mirror.specs.Tree.{text, trees, option, Path·tree, Type·tree, Types·trees, Formal·tree}
 
 -- a path and an Option<string> hold no type and no expression
 fold-path : {T : Type 0} (f ft : T → Record → T) (p : Path) (acc : T) → Fold f ft acc (Path·tree p) ≡ acc

@@ -3,17 +3,16 @@ use mathlib.Core.Path.{_≡_, refl, ap, ap₂, sym, _∙_}
 use mathlib.Core.List.{List, [], _∷_, _++_, map, map-append}
 use mathlib.Core.Option.{Option, none, some, Option·map}
 use mathlib.Core.Bool.{Bool as 𝔹, true, false, _&&_, _||_, cond}
-use Prim.Native.Nat.{ℕ, suc}
 use lib.ListN.{length, length-map}
 use lib.Dec.{eqb}
 use Rattle.wire.specs.Numbers.{sameBytes}
-use Rattle.records.specs.Record.{Record, Records, leaf, node, nil, _▸_}
+use Rattle.records.specs.Record.{_▸_}
 use Rattle.rast.specs.Path.{samePath, whether}
 use Rattle.rast.specs.Operation.{upstream}
 use Rattle.factor_paths.specs.Mapping.{Entry, entry, Mapping, Provenance, FinalReplacement, get, set, _among_, include, Add, UniqueElementOf, final, ToFinalReplacement, ToUseStatements, useDecl}
-use Rattle.mirror.specs.Rast.{string, Path, Global, Crate, Self, PMemberSelect, Use, Use′, ModDecl, UseDecl, ModDecls, []ᵐ, _∷ᵐ_}
+use Rattle.mirror.specs.Rast.{string, Path, Global, Crate, Self, PMemberSelect, Use′, UseDecl, ModDecls, _∷ᵐ_}
 use Rattle.mirror.specs.FactorPaths as Text
-use Rattle.mirror.specs.Tree.{Path·tree, Use·tree, ModDecl·tree, ModDecls·trees}
+use Rattle.mirror.specs.Tree.{Path·tree, Use·tree, ModDecls·trees}
 
 -- a function past an if and past an Option
 pub past-cond : {A B : Type 0} (g : A → B) (t : 𝔹) (a b : A) → cond t (g a) (g b) ≡ g (cond t a b)

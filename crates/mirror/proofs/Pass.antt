@@ -1,21 +1,20 @@
 -- applyPrefix and apply over record trees are the text's over module trees; what is collected is what the text collects. Assumes nothing.
-use mathlib.Core.Path.{_≡_, refl, ap, ap₂, sym, _∙_}
-use mathlib.Core.List.{List, [], _∷_, map}
+use mathlib.Core.Path.{_≡_, refl, ap, _∙_}
+use mathlib.Core.List.{[]}
 use mathlib.Core.Option.{Option, none, some, Option·map}
 use mathlib.Core.Bool.{Bool as 𝔹, true, false, _&&_, cond}
 use Prim.Native.Nat.{ℕ, zero, suc}
-use Rattle.wire.specs.Numbers.{sameBytes}
-use Rattle.records.specs.Record.{Record, Records, leaf, node, nil, _▸_, nth, setNth, is, field, update, put, children, _▸▸_}
+use Rattle.records.specs.Record.{Record, node, nil, _▸_, nth, setNth, is, field, update, put, children, _▸▸_}
 use Rattle.rast.specs.Path.{whether}
 use Rattle.rast.specs.Operation.{upstream}
 use Rattle.rast.specs.Visitor.{VisitMod}
-use Rattle.rast.specs.Replacer.{RASTBottomUpReplacer, ReplaceMod}
-use Rattle.factor_paths.specs.Mapping.{Mapping, FinalReplacement, noMapping, Add}
+use Rattle.rast.specs.Replacer.{ReplaceMod}
+use Rattle.factor_paths.specs.Mapping.{Mapping, FinalReplacement, Add}
 use Rattle.factor_paths.specs.PathsVisitor.{marked, unmarked, VisitTypeSingle, VisitExprSingle, VisitTraitName, VisitModDeclSingle, PathsVisitor}
-use Rattle.factor_paths.specs.Apply.{replaces, ReplaceTypeSingle, ReplaceExprSingle, PathSimplifier, mappings, pathsToRemove, imports, applyPrefix, apply}
-use Rattle.mirror.specs.Rast.{string, Path, Global, Crate, Self, PMemberSelect, «Type», U8, U16, U32, U64, U128, I8, I16, I32, I64, I128, USIZE, Bool, TIdentifier, TypeFromPath, TypeApp, Borrowed, BorrowedMut, ImplType, DynType, TupleType, FnType, IntersectionType, Array, TSynonym, TMetaData, Types}
+use Rattle.factor_paths.specs.Apply.{replaces, ReplaceTypeSingle, ReplaceExprSingle, PathSimplifier, mappings, pathsToRemove, imports, applyPrefix}
+use Rattle.mirror.specs.Rast.{string, Path, Global, Crate, Self, PMemberSelect, «Type», U8, U16, U32, U64, U128, I8, I16, I32, I64, I128, USIZE, Bool, TIdentifier, TypeFromPath, TypeApp, Borrowed, BorrowedMut, ImplType, DynType, TupleType, FnType, IntersectionType, Array, TSynonym, TMetaData}
 use Rattle.mirror.specs.Rast.{Expr, RawExpr, ExprFromType, Identifier, Match, StmtExpr, Block, StructBuild, Tuple, UnaryOp, BinaryOp, TypeAscription, TraitCast, LiteralInt, LiteralBool, LiteralString, DeclareVar, Assign, IfExpr, Loop, For, Labelled, Break, Continue, Return, CallType, Call, Select, SelectIndex, ExprFromPath, FunctionSelect, Lambda}
-use Rattle.mirror.specs.Rast.{Struct, Struct′, TypeSynonym, TypeSynonym′, Constant, Constant′, Enum, Enum′, Fn, Fn′, Trait, Trait′, TopFnDecl, TopFn, Use, Use′, Mod, Mod′, ExternMod, ModDecl, ModDecl′, StructDecl, TypeDecl, ConstDecl, EnumDecl, ImplDecl, TraitDecl, TopFnDecl′, UseDecl, ModDecls, []ᵐ, _∷ᵐ_}
+use Rattle.mirror.specs.Rast.{Struct′, TypeSynonym′, Constant′, Enum′, Fn′, Trait′, TopFn, Mod, Mod′, ExternMod, ModDecl, ModDecl′, StructDecl, TypeDecl, ConstDecl, EnumDecl, ImplDecl, TraitDecl, TopFnDecl′, UseDecl, ModDecls}
 use Rattle.mirror.specs.Visitor.{MSel, Mod·name}
 use Rattle.mirror.specs.Visitor as TextVisitor
 use Rattle.mirror.specs.Replacer as TextReplacer

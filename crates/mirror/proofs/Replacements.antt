@@ -3,7 +3,7 @@ use mathlib.Core.Path.{_≡_, refl, ap, ap₂, _∙_}
 use mathlib.Core.List.{List, [], _∷_, map}
 use mathlib.Core.Option.{Option, none, some, Option·map}
 use mathlib.Core.Bool.{true, cond}
-use Rattle.records.specs.Record.{Record, Records, leaf, node, nil, _▸_, _▸▸_, children, FoldLeft, nth, setNth, mapAll, Map, update}
+use Rattle.records.specs.Record.{Record, node, nil, _▸_, _▸▸_, FoldLeft, nth, setNth, mapAll, Map, update}
 use Rattle.rast.specs.Operation.{Operation}
 use Rattle.rast.specs.Mod.{Mod·Fold}
 use Rattle.rast.specs.Replace.{Replace}

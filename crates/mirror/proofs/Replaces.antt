@@ -2,13 +2,13 @@
 use mathlib.Core.Path.{_≡_, refl, ap, ap₂}
 use mathlib.Core.List.{List, [], _∷_, map}
 use mathlib.Core.Option.{Option, none, some, Option·map}
-use Rattle.records.specs.Record.{Record, Records, leaf, node, nil, _▸_}
+use Rattle.records.specs.Record.{Record, node, nil, _▸_}
 use Rattle.rast.specs.Replace.{Replace, ReplaceParts}
 use Rattle.mirror.specs.Rast.{string, Path, Global, Crate, Self, PMemberSelect, «Type», U8, U16, U32, U64, U128, I8, I16, I32, I64, I128, USIZE, Bool, TIdentifier, TypeFromPath, TypeApp, Borrowed, BorrowedMut, ImplType, DynType, TupleType, FnType, IntersectionType, Array, TSynonym, TMetaData, Types, []ᵗ, _∷ᵗ_, Formal, Formal′}
 use Rattle.mirror.specs.Rast.{Expr, RawExpr, ExprFromType, Identifier, Match, StmtExpr, Block, StructBuild, Tuple, UnaryOp, BinaryOp, TypeAscription, TraitCast, LiteralInt, LiteralBool, LiteralString, DeclareVar, Assign, IfExpr, Loop, For, Labelled, Break, Continue, Return, CallType, Call, Select, SelectIndex, ExprFromPath, FunctionSelect, Lambda}
 use Rattle.mirror.specs.Rast.{Exprs, []ᵉ, _∷ᵉ_, OptExpr, None, Some, MatchCase, MatchCase′, MatchCases, []ᶜ, _∷ᶜ_, AssignIdentifier, AssignIdentifier′, AssignIdentifiers, []ᵃ, _∷ᵃ_}
 use Rattle.mirror.specs.Replace.{mapTypes, Type·Replace, Types·Replace, Formal·Replace, Expr·Replace, Exprs·Replace, OptExpr·Replace, MatchCase·Replace, MatchCases·Replace, AssignIdentifier·Replace, AssignIdentifiers·Replace}
-use Rattle.mirror.specs.Tree.{text, kept, list, trees, seq, option, Path·tree, Type·tree, Types·trees, Formal·tree, Expr·tree, Exprs·trees, OptExpr·tree, MatchCase·tree, MatchCases·trees, AssignIdentifier·tree, AssignIdentifiers·trees}
+use Rattle.mirror.specs.Tree.{text, kept, list, trees, option, Path·tree, Type·tree, Types·trees, Formal·tree, Expr·tree, Exprs·trees, OptExpr·tree, MatchCase·tree, MatchCases·trees, AssignIdentifier·tree, AssignIdentifiers·trees}
 
 -- a path and an Option<string> are left
 replace-path : (f ft : Record → Record) (p : Path) → Replace f ft (Path·tree p) ≡ Path·tree p

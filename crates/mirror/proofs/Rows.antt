@@ -2,13 +2,13 @@
 use mathlib.Core.Path.{_≡_, refl, sym, ap, _∙_, subst}
 use mathlib.Core.List.{List, [], _∷_}
 use mathlib.Core.Option.{Option, none, some}
-use mathlib.Core.Bool.{Bool, true, false, _||_}
+use mathlib.Core.Bool.{true}
 use Prim.Native.Nat.{ℕ, _+_, _≤_}
 use native.Mathlib.Omega.{arith}
-use lib.Dec.{T, leb, eqb, lit≤}
+use lib.Dec.{T, leb, lit≤}
 use borrow.Author.Tests.{eqb-true}
 use Rattle.wire.specs.Numbers.{Bytes}
-use Rattle.records.specs.Record.{Record, Records, leaf, node, nil, _▸_, isLeaf, text, children}
+use Rattle.records.specs.Record.{Record, Records, leaf, node, nil, _▸_, text, children}
 use Rattle.records.proofs.ByRow.{no-leaf}
 use Rattle.records.specs.Kinds.{Place, kinds, seq, option, name, one, stands, Content, bytes, these, any, atMostOne, rowOf, contentAt}
 use Rattle.records.proofs.Fits.{Fits, FitsAll}
@@ -16,7 +16,7 @@ use Rattle.mirror.specs.Tree.{list, trees}
 use Rattle.mirror.specs.Tree
 use Rattle.mirror.proofs.Decode.{each, Kid, foldAll, kid, first, rest, gather, atMost, own, from, read, absent, seq·of, option·of}
 use Rattle.records.proofs.Run.{Run, within, in-run}
-use Rattle.records.proofs.Leaves.{no-records, leaf-right, one-kind}
+use Rattle.records.proofs.Leaves.{leaf-right, one-kind}
 
 -- one way of reading the records that a record holds, and what is known of them
 pub record Layer : Type 1 where

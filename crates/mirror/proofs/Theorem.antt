@@ -1,12 +1,12 @@
 -- The depth that falls never runs out, and so: what the definitions make of the record tree of a module tree is the record tree of what the text makes of it. Assumes nothing.
-use mathlib.Core.Path.{_≡_, refl, ap, ap₂, sym, _∙_}
-use Prim.Native.Nat.{ℕ, zero, suc, _≤_, max}
+use mathlib.Core.Path.{_≡_, refl, ap, _∙_}
+use Prim.Native.Nat.{ℕ, zero, suc, _≤_}
 use native.Mathlib.Nat.{le-refl}
 use native.Mathlib.Omega.{arith}
 use Rattle.records.specs.Record.{deep, deepAll}
 use Rattle.rast.specs.Operation.{upstream}
 use Rattle.factor_paths.specs.Apply.{applyPrefix, apply}
-use Rattle.mirror.specs.Rast.{string, Path, Mod, Mod′, ExternMod, ModDecl, ModDecl′, StructDecl, TypeDecl, ConstDecl, EnumDecl, ImplDecl, TraitDecl, TopFnDecl′, UseDecl, ModDecls, []ᵐ, _∷ᵐ_}
+use Rattle.mirror.specs.Rast.{Path, Mod, Mod′, ExternMod, ModDecl, ModDecl′, StructDecl, TypeDecl, ConstDecl, EnumDecl, ImplDecl, TraitDecl, TopFnDecl′, UseDecl, ModDecls, []ᵐ, _∷ᵐ_}
 use Rattle.mirror.specs.Fold.{FoldModDecls, Mod·Fold}
 use Rattle.mirror.specs.Visitor.{MSel, Mod·name}
 use Rattle.mirror.specs.Replacer.{_++ᵐ_, ReplaceType, ReplaceExpr, ReplaceFields, ReplaceTypeParams, ReplaceFn, ReplaceImplMember, ReplaceBody, ReplaceUse, ReplaceTopFn, ReplaceTrait, ReplaceImplDecl, ReplaceEnumCase, ReplaceEnum, ReplaceConst, ReplaceTypeDecl, ReplaceStruct, ReplaceModDecl, ReplaceMod}

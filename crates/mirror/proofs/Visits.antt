@@ -2,16 +2,16 @@
 use mathlib.Core.Path.{_≡_, refl, ap, _∙_}
 use mathlib.Core.List.{List, [], _∷_}
 use mathlib.Core.Option.{Option, none, some}
-use mathlib.Core.Bool.{Bool as 𝔹, true, false}
-use Rattle.records.specs.Record.{Record, Records, leaf, node, nil, _▸_, children, FoldLeft, nth}
+use mathlib.Core.Bool.{false}
+use Rattle.records.specs.Record.{Record, children, FoldLeft, nth}
 use Rattle.rast.specs.Mod.{Mod·Fold}
 use Rattle.rast.specs.Fold.{Fold}
 use Rattle.rast.specs.Visitor.{RASTTopDownVisitor, VisitType, VisitTypeParams, VisitFields, VisitFn, VisitMember, VisitBody, VisitImplMapping, VisitUse, VisitTopFn, VisitTraitDecl, VisitStructMapping, VisitModMapping, VisitMod}
-use Rattle.mirror.specs.Rast.{string, Path, «Type», Types, []ᵗ, _∷ᵗ_, Formal, Formal′, Expr, TypeParamDecl, TypeParamDecl′, Field, Field′, NamelessField, NamelessField′, Fields, NamedFields, NamelessFields, Struct, Struct′, TypeSynonym, TypeSynonym′, Constant, Constant′, EnumCase, EnumCase′, Enum, Enum′, Fn, Fn′, ImplMember, RawImplMember, TypeDeclMember, FnDecl, ImplMemberMacro, Impl, ImplFor, Impl′, Trait, Trait′, TopFnDecl, TopFn, Use, Use′}
+use Rattle.mirror.specs.Rast.{Path, «Type», Types, []ᵗ, _∷ᵗ_, Formal, Formal′, Expr, TypeParamDecl, TypeParamDecl′, Field, Field′, NamelessField, NamelessField′, Fields, NamedFields, NamelessFields, Struct, Struct′, TypeSynonym, TypeSynonym′, Constant, Constant′, EnumCase, EnumCase′, Enum, Enum′, Fn, Fn′, ImplMember, RawImplMember, TypeDeclMember, FnDecl, ImplMemberMacro, Impl, ImplFor, Impl′, Trait, Trait′, TopFnDecl, TopFn}
 use Rattle.mirror.specs.Rast.{Mod, Mod′, ExternMod, ModDecl, ModDecl′, StructDecl, TypeDecl, ConstDecl, EnumDecl, ImplDecl, TraitDecl, TopFnDecl′, UseDecl, ModDecls, []ᵐ, _∷ᵐ_}
 use Rattle.mirror.specs.Fold as Text
 use Rattle.mirror.specs.Visitor as TextVisitor
-use Rattle.mirror.specs.Tree.{text, kept, list, trees, seq, option, typeParams·tree, Path·tree, Type·tree, Types·trees, Formal·tree, Expr·tree, TypeParamDecl·tree, Field·tree, NamelessField·tree, Fields·tree, Struct·tree, TypeSynonym·tree, Constant·tree, EnumCase·tree, Enum·tree, Fn·tree, ImplMember·tree, Impl·tree, Trait·tree, TopFnDecl·tree, Use·tree, Mod·tree, ModDecl·tree, ModDecls·trees}
+use Rattle.mirror.specs.Tree.{trees, seq, option, typeParams·tree, Path·tree, Type·tree, Types·trees, Formal·tree, Expr·tree, TypeParamDecl·tree, Field·tree, NamelessField·tree, Fields·tree, Struct·tree, TypeSynonym·tree, Constant·tree, EnumCase·tree, Enum·tree, Fn·tree, ImplMember·tree, Impl·tree, Trait·tree, TopFnDecl·tree, Mod·tree, ModDecl·tree, ModDecls·trees}
 use Rattle.mirror.proofs.Folds.{fold-type, fold-expr}
 
 -- FoldLeft over the records of a seq, of a seq of types, and of an Option

@@ -3,7 +3,6 @@
 -- Assumes nothing: these are definitions.
 use mathlib.Core.List.{List}
 use mathlib.Core.Option.{Option}
-use Prim.Native.Nat.{ℕ}
 use Rattle.wire.specs.Numbers.{Bytes}
 
 abbrev pub string : Type 0

@@ -1,7 +1,7 @@
 -- RASTBottomUpReplacer of RAST, function by function. Assumes nothing: these are definitions.
 use mathlib.Core.List.{List, map}
-use mathlib.Core.Option.{Option, Option·map}
-use Rattle.mirror.specs.Rast.{Path, «Type», Formal, Formal′, Expr, TypeParamDecl, TypeParamDecl′, Field, Field′, NamelessField, NamelessField′, Fields, NamedFields, NamelessFields, Struct, Struct′, TypeSynonym, TypeSynonym′, Constant, Constant′, EnumCase, EnumCase′, Enum, Enum′, Fn, Fn′, ImplMember, RawImplMember, TypeDeclMember, FnDecl, ImplMemberMacro, Impl, ImplFor, Impl′, Trait, Trait′, TopFnDecl, TopFn, Use, Use′}
+use mathlib.Core.Option.{Option·map}
+use Rattle.mirror.specs.Rast.{Path, «Type», Formal′, Expr, TypeParamDecl, TypeParamDecl′, Field, Field′, NamelessField, NamelessField′, Fields, NamedFields, NamelessFields, Struct, Struct′, TypeSynonym, TypeSynonym′, Constant, Constant′, EnumCase, EnumCase′, Enum, Enum′, Fn, Fn′, ImplMember, RawImplMember, TypeDeclMember, FnDecl, ImplMemberMacro, Impl, ImplFor, Impl′, Trait, Trait′, TopFnDecl, TopFn, Use, Use′}
 use Rattle.mirror.specs.Rast.{Mod, Mod′, ExternMod, ModDecl, ModDecl′, StructDecl, TypeDecl, ConstDecl, EnumDecl, ImplDecl, TraitDecl, TopFnDecl′, UseDecl, ModDecls, []ᵐ, _∷ᵐ_}
 use Rattle.mirror.specs.Fold.{Mod·Fold}
 use Rattle.mirror.specs.Replace.{mapTypes, Type·Replace, Formal·Replace, Expr·Replace}

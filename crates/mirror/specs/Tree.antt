@@ -2,7 +2,6 @@
 -- any other is a record of its constructor's kind that holds the constructor's fields in order. Assumes nothing: these are definitions.
 use mathlib.Core.List.{List, [], _∷_}
 use mathlib.Core.Option.{Option, none, some}
-use Prim.Native.Nat.{ℕ}
 use Rattle.records.specs.Record.{Record, Records, leaf, node, nil, _▸_}
 use Rattle.mirror.specs.Rast.{string, Kept, Path, Global, Crate, Self, PMemberSelect, «Type», U8, U16, U32, U64, U128, I8, I16, I32, I64, I128, USIZE, Bool, TIdentifier, TypeFromPath, TypeApp, Borrowed, BorrowedMut, ImplType, DynType, TupleType, FnType, IntersectionType, Array, TSynonym, TMetaData, Types, []ᵗ, _∷ᵗ_, Formal, Formal′}
 use Rattle.mirror.specs.Rast.{Expr, RawExpr, ExprFromType, Identifier, Match, StmtExpr, Block, StructBuild, Tuple, UnaryOp, BinaryOp, TypeAscription, TraitCast, LiteralInt, LiteralBool, LiteralString, DeclareVar, Assign, IfExpr, Loop, For, Labelled, Break, Continue, Return, CallType, Call, Select, SelectIndex, ExprFromPath, FunctionSelect, Lambda}

@@ -1,31 +1,30 @@
 -- The points of a module: the uses put ahead of its body, and its declarations beside those of the output. Assumes nothing.
 use mathlib.Core.Path.{_≡_, refl, ap, ap₂, sym, subst, subst₂, _∙_}
-use mathlib.Core.Bool.{Bool, true, false, _&&_, cond, false≢true}
+use mathlib.Core.Bool.{true, false, _&&_}
 use Prim.Native.Nat.{ℕ, zero, suc, _+_, _-_, _≤_}
 use native.Mathlib.Omega.{arith}
-use lib.Dec.{eqb, leb, lit≤}
-use borrow.Author.Tests.{eqb-true, eqb-false, le-leb, leb-true}
-use Rattle.records.specs.Record.{Record, Records, leaf, node, nil, _▸_, _▸▸_, kind, children, nth, setNth, field, is, update, put, count, first, skip, mapAll, deep, deepAll}
-use Rattle.records.specs.Kinds.{Place, kinds, one, stands, mod′, any, rowOf, contentAt}
+use lib.Dec.{lit≤}
+use borrow.Author.Tests.{eqb-true, eqb-false, le-leb}
+use Rattle.records.specs.Record.{Record, Records, leaf, node, nil, _▸_, _▸▸_, kind, nth, setNth, is, count, first, skip, mapAll, deep, deepAll}
+use Rattle.records.specs.Kinds.{kinds, one, stands, mod′, any, rowOf, contentAt}
 use Rattle.records.proofs.Fits.{Fits, FitsAll}
-use Rattle.records.proofs.Run.{within, _⨾_}
+use Rattle.records.proofs.Run.{within}
 use Rattle.records.proofs.Leaves.{fits-stands}
 use Rattle.records.proofs.ByRow.{by-kinds}
-use Rattle.records.proofs.Closed.{Of, holdsAt, fits-of}
-use Rattle.rast.specs.Path.{Name, Path}
+use Rattle.records.proofs.Closed.{holdsAt, fits-of}
+use Rattle.rast.specs.Path.{Path}
 use Rattle.rast.specs.Operation.{Operation, nested}
 use Rattle.rast.specs.Mod.{nameOf}
 use Rattle.rast.proofs.Tests.{by-test}
 use Rattle.rast.proofs.Names.{Names}
-use Rattle.factor_paths.specs.Mapping.{FinalReplacement}
-use Rattle.factor_paths.specs.Apply.{pathsToRemove, imports, applyPrefix, apply}
-use Rattle.factor_paths.specs.Walk.{walk, walkDecl}
+use Rattle.factor_paths.specs.Apply.{pathsToRemove, imports, applyPrefix}
+use Rattle.factor_paths.specs.Walk.{walkDecl}
 use Rattle.factor_paths.proofs.Tidy.{declKind, decls-closed, fits-paths}
 use Rattle.factor_paths.proofs.Modules.{ModFields, mod-fields, module-walk, extern-walk}
-use Rattle.factor_paths.specs.LookUp.{collected, own, different, namesBorne}
-use Rattle.points.specs.Points.{Module, Ahead, Point, Points, outside}
+use Rattle.factor_paths.specs.LookUp.{collected}
+use Rattle.points.specs.Points.{Module, Ahead, Point, Points}
 use Rattle.factor_paths.proofs.Uses.{Marks, imports-are, imports-different}
-use Rattle.points.proofs.Walked.{same-node, point-self, points-self, walk-point}
+use Rattle.points.proofs.Walked.{same-node, point-self, walk-point}
 
 -- how many, and which, are put ahead
 count-append : (c d : Records) → count (c ▸▸ d) ≡ count c + count d

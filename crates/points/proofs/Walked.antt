@@ -1,25 +1,24 @@
 -- The points of a declaration that is walked: where a name is shortened it is found, and every other point holds what it held. Assumes nothing.
 use mathlib.Core.Path.{_≡_, refl, ap, sym, subst, _∙_}
-use mathlib.Core.Bool.{Bool, true, false, not, _&&_, _||_, cond, false≢true}
-use mathlib.Core.Option.{Option, none, some, Option·some-injective, Option·none-ne-some}
-use Prim.Native.Nat.{ℕ, zero, suc}
+use mathlib.Core.Bool.{Bool, true, false, _||_, false≢true}
+use mathlib.Core.Option.{none, some, Option·some-injective, Option·none-ne-some}
+use Prim.Native.Nat.{ℕ, suc}
 use lib.Dec.{eqb}
-use borrow.Author.Tests.{eqb-true, not-true}
-use Rattle.records.specs.Record.{Record, Records, leaf, node, nil, _▸_, kind, text, children, nth, setNth, field, is}
-use Rattle.records.specs.Kinds.{stands, kinds}
+use borrow.Author.Tests.{eqb-true}
+use Rattle.records.specs.Record.{Record, Records, leaf, node, nil, _▸_, text, nth, setNth, field, is}
 use Rattle.records.proofs.Closed.{Of, OfAll}
-use Rattle.rast.specs.Path.{Name, Path, MSel, Selected, selected, whether}
+use Rattle.rast.specs.Path.{Name, Path, MSel, Selected, selected}
 use Rattle.rast.specs.Operation.{Operation}
 use Rattle.rast.proofs.Tests.{by-test, by-option}
 use Rattle.rast.proofs.Names.{Names}
-use Rattle.factor_paths.specs.Mapping.{FinalReplacement, equal}
+use Rattle.factor_paths.specs.Mapping.{FinalReplacement}
 use Rattle.factor_paths.specs.PathsVisitor.{marked, unmarked}
 use Rattle.factor_paths.specs.Apply.{Identifier, pathsToRemove, imports, replaces, ReplaceExprSingle}
 use Rattle.factor_paths.specs.Walk.{Step, aType, anExpr, aFn, left, holds, stepOf, deeper, synonyms, wrap, stepped, walk, walkAll, walkFn}
 use Rattle.factor_paths.proofs.Tidy.{declKind, PathIn, Paths, PathsAll}
 use Rattle.factor_paths.proofs.Wraps.{deeper-suc, paths-walked, wrap-other, expr-other, or-left, or-right}
-use Rattle.factor_paths.specs.LookUp.{bare, barePath, unmarkedAll, lookUp, collected}
-use Rattle.points.specs.Points.{Module, Meeting, shortType, shortExpr, module′, elsewhere, meeting, Finds, ShortType, ShortExpr, Met, Point, Points}
+use Rattle.factor_paths.specs.LookUp.{collected}
+use Rattle.points.specs.Points.{Module, elsewhere, meeting, Point, Points}
 use Rattle.factor_paths.proofs.Uses.{Marks, looks-up, replaced-unmarked}
 
 -- two kinds that are the same, and no module's, meet elsewhere

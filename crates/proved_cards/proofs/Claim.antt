@@ -1,7 +1,6 @@
 -- P1 to P15 of document 01, of the definitions: one claim over the table, by computation. Assumes nothing.
 use mathlib.Core.Path.{_≡_, refl}
-use mathlib.Core.List.{List, map}
-use Prim.Native.Nat.{ℕ}
+use mathlib.Core.List.{map}
 use lib.ListN.{length}
 use Rattle.wire.specs.Numbers.{le, num, sameBytes}
 use Rattle.records.specs.Record.{deep, encode, parse, nth, tree, setNth, _▸▸_, count, skip, first, FoldLeft, mapAll}
@@ -17,8 +16,8 @@ use Rattle.factor_paths.specs.Mapping.{get, set, _among_, Add, ToFinalReplaceme
 use Rattle.factor_paths.specs.PathsVisitor.{VisitTypeSingle, VisitExprSingle, VisitTraitName, VisitModDeclSingle}
 use Rattle.factor_paths.specs.Apply.{replaces, ReplaceTypeSingle, ReplaceExprSingle, PathSimplifier, mappings, pathsToRemove, imports, applyPrefix, apply}
 use Rattle.outcome.specs.FullTable.{firstIn, fullTable}
-use Rattle.outcome.specs.Outcome.{Outcome, admitted, shorten}
-use Rattle.proved_cards.specs.Cards.{ProvedCard, provedCards, seen, stated}
+use Rattle.outcome.specs.Outcome.{admitted, shorten}
+use Rattle.proved_cards.specs.Cards.{provedCards, seen, stated}
 
 pub proved-cards : (map seen provedCards ≡ map stated provedCards) × (map (λ p. length (p .card)) provedCards ≡ map (λ p. p .long) provedCards)
 unfolding provedCards le num sameBytes deep encode parse nth tree setNth _▸▸_ count skip first FoldLeft mapAll rowOf contentAt read reading samePath Mod·Fold Fold Replace VisitType VisitTypeParams VisitFields VisitFn VisitMember VisitBody VisitImplMapping VisitUse VisitTopFn VisitTraitDecl VisitStructMapping VisitModMapping VisitMod ReplaceType ReplaceExpr ReplaceFields ReplaceTypeParams ReplaceFn ReplaceImplMember ReplaceBody ReplaceUse ReplaceTopFn ReplaceTrait ReplaceImplDecl ReplaceEnumCase ReplaceEnum ReplaceConst ReplaceTypeDecl ReplaceStruct ReplaceModDecl ReplaceMod get set _among_ Add ToFinalReplacement ToUseStatements pairs VisitTypeSingle VisitExprSingle VisitTraitName VisitModDeclSingle replaces ReplaceTypeSingle ReplaceExprSingle PathSimplifier mappings pathsToRemove imports applyPrefix apply firstIn fullTable admitted shorten

@@ -4,7 +4,7 @@ use mathlib.Core.Bool.{true}
 use mathlib.Core.List.{[], _∷_}
 use Rattle.answers.specs.declared.Verdict.the-variants.{Sound}
 use Rattle.wire.specs.Numbers.{le, num, sameBytes}
-use Rattle.records.specs.Record.{Record, leaf, node, nil, _▸_, deep, encode, parse, nth, tree, setNth, _▸▸_, count, skip, first, FoldLeft, mapAll}
+use Rattle.records.specs.Record.{leaf, node, nil, _▸_, deep, encode, parse, nth, tree, setNth, _▸▸_, count, skip, first, FoldLeft, mapAll}
 use Rattle.records.specs.Kinds.{rowOf, contentAt}
 use Rattle.records.specs.Reading.{read, reading}
 use Rattle.rast.specs.Path.{samePath}
@@ -16,11 +16,11 @@ use Rattle.rast.specs.Replacer.{ReplaceType, ReplaceExpr, ReplaceFields, Replac
 use Rattle.factor_paths.specs.Mapping.{get, set, _among_, Add, ToFinalReplacement, ToUseStatements, pairs}
 use Rattle.factor_paths.specs.PathsVisitor.{VisitTypeSingle, VisitExprSingle, VisitTraitName, VisitModDeclSingle}
 use Rattle.factor_paths.specs.Apply.{replaces, ReplaceTypeSingle, ReplaceExprSingle, PathSimplifier, mappings, pathsToRemove, imports, applyPrefix, apply}
-use Rattle.records.specs.Kinds.{mod′, path}
+use Rattle.records.specs.Kinds.{mod′}
 use Rattle.rast.specs.Operation.{upstream}
 use Rattle.factor_paths.specs.Walk.{synonyms}
 use Rattle.factor_paths.specs.LookUp.{UseDecls, unmarkedAll, namesBorne, lookUp, has, different, collected}
-use Rattle.points.specs.Points.{Point, NamesHold, outside}
+use Rattle.points.specs.Points.{Point, outside}
 use Rattle.proved_cards.specs.Builders.{Crate}
 use Rattle.proved_cards.specs.Cards.{P3-card, P3-made, P8-card, P8-made, P13-card, P13-made}
 

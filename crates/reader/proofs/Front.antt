@@ -1,6 +1,6 @@
 -- The laws of the record at the front of a slice: which part of the slice is its content, which follows it, and when it is short.
 -- In each, n is the length that was read. Assumes nothing.
-use mathlib.Core.Path.{_≡_, refl, ap, sym, _∙_}
+use mathlib.Core.Path.{_≡_, ap, sym, _∙_}
 use mathlib.Core.Bool.{true}
 use Prim.Native.Nat.{ℕ, _+_, _-_, _<_, _≤_}
 use native.Mathlib.Omega.{arith}

@@ -1,21 +1,20 @@
 -- The numbers of places, as the walk meets them. Assumes nothing.
 use mathlib.Core.Path.{_≡_, refl, ap, sym, subst, _∙_}
-use mathlib.Core.List.{List, [], _∷_}
+use mathlib.Core.List.{List}
 use mathlib.Core.Bool.{Bool, true, false, _||_, cond, false≢true}
-use mathlib.Core.Option.{Option, none, some}
-use Prim.Native.Nat.{ℕ, zero, suc, _+_, _-_, _<_, _≤_}
+use mathlib.Core.Option.{none, some}
+use Prim.Native.Nat.{ℕ, zero, suc, _-_, _<_, _≤_}
 use native.Mathlib.Omega.{arith}
 use native.Mathlib.Decide.{decLe, ℕ-discrete}
-use lib.ListN.{drop}
-use lib.Dec.{eqb, leb, ltb}
+use lib.Dec.{eqb}
 use borrow.Author.Tests.{le-leb, lt-leb, lt-ltb, le-ltb, ne-eqb}
 use Rattle.records.specs.Record.{isLeaf}
-use Rattle.records.specs.Kinds.{Place, Content, bytes, these, any, atMostOne, ofBytes, rowOf, contentAt}
+use Rattle.records.specs.Kinds.{bytes, these, atMostOne, ofBytes, rowOf, contentAt}
 use Rattle.rast.proofs.Tests.{by-test}
 use Rattle.rows.specs.Codes.{placeOf, codeAt, table, codeFrom}
 use Rattle.rows.proofs.Tables.{code-from}
 use Rattle.rows.proofs.Codes.{code-none, code-some, code-below, code-seq, code-option, content-name, content-one, content-seq, content-option}
-use Rattle.reading.specs.Reads.{firstOf, placeIn, mayEnd}
+use Rattle.reading.specs.Reads.{placeIn, mayEnd}
 use Rattle.reading.specs.Codes.{codeIn, Valid}
 
 -- a number's three ranges

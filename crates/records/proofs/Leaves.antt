@@ -1,13 +1,12 @@
 -- Records of bytes, and records at a kind that is known. Assumes nothing.
 use mathlib.Core.Path.{_≡_, refl, sym, ap, _∙_, subst}
-use mathlib.Core.List.{List, []}
-use mathlib.Core.Bool.{Bool, true}
+use mathlib.Core.List.{List}
+use mathlib.Core.Bool.{true}
 use Prim.Native.Nat.{ℕ}
 use native.Mathlib.Omega.{arith}
-use lib.Dec.{eqb}
 use borrow.Author.Tests.{eqb-true}
 use Rattle.records.specs.Record.{Record, Records, leaf, node, nil, _▸_, kind, text, children, is}
-use Rattle.records.specs.Kinds.{Place, one, name, stands, Content, bytes, these, any, atMostOne, contentAt}
+use Rattle.records.specs.Kinds.{Place, one, name, stands, Content, bytes, these, contentAt}
 use Rattle.records.proofs.Fits.{Fits, FitsAll}
 use Rattle.records.proofs.Run.{within}
 

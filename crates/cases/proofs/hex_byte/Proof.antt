@@ -2,7 +2,7 @@
 use native.Mathlib.Omega.{arith}
 use borrow.Author.Needs.{needs}
 use borrow.Author.Tests.{lt-ltb, le-ltb, le-leb, lt-leb}
-use Rattle.cases.specs.Text.{hexValue, hexPair, hexFirst}
+use Rattle.cases.specs.Text.{hexPair, hexFirst}
 use Rattle.cases.proofs.hex_byte.Statement.{statement}
 use Rattle.cases.proofs.hex_byte.Tie as tie
 

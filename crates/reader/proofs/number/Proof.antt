@@ -1,7 +1,5 @@
 -- `reader::number` meets its contract: the loop gathers the bytes from the last to the first. Assumes nothing.
-use mathlib.Core.Path.{_≡_}
-use Prim.Native.Nat.{ℕ, _≤_, _<_, _-_, _+_, _^_}
-use native.Mathlib.Nat.{pow-le-pow-right, zero-lt-suc}
+use Prim.Native.Nat.{_-_}
 use native.Mathlib.Omega.{arith}
 use borrow.Author.Needs.{needs}
 use Rattle.wire.proofs.Numbers.{Gathered, gathered-none, gathered-byte, gathered-past, gathered-all, gathered-below}

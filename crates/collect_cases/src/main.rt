@@ -59,7 +59,7 @@ fn say_base(card: &[u8], root: &[u8], chain: &[usize], work: &[u32], i: usize)
         say(b"prefix\n");
         return;
     }
-    let path = reader::record(wire::part(card, word, card.len()));
+    let path = reader::record_at(card, word);
     if prefix::is_prefix(path, card, root, chain) {
         say(b"prefix\n");
         return;

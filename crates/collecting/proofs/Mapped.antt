@@ -28,6 +28,7 @@ use Rattle.table.specs.Means.{Means}
 use Rattle.table.proofs.Means.{means-none, means-put}
 use Rattle.fields.specs.Fields.{offsetOf, nameAt}
 use Rattle.collecting.specs.Gathers.{gathered}
+use Rattle.collecting.proofs.Names.{is-text}
 use Rattle.collecting.proofs.Parts.{Starts, starts-kind, starts-first, starts-field, encode-first}
 use Rattle.collecting.proofs.Trees.{gather-walks}
 
@@ -40,10 +41,10 @@ unfolding rowOf contentAt nth skip Canonical nameAt
 module-name s =
     by-kinds (λ m. Starts s 0 m → Canonical m → NameIn s m) 0x60 1 (lit≤ tt)
     ((λ x hx y hy n hn b hb p h.
-    let e = leaf-right (one 0x01) 0x01 (one-kind 0x01) refl n hn in
+    let e = is-text n hn in
     rw (starts-kind p h) (subst (Starts s (6 + offsetOf 2 (drop 6 s))) (sym e) (starts-field p 2 n (b ▸ nil) (h .3) refl), subst Canonical (sym e) (h .3 .1 .1 .0)))
     ⨾ (λ n hn p h.
-    let e = leaf-right (one 0x01) 0x01 (one-kind 0x01) refl n hn in
+    let e = is-text n hn in
     rw (starts-kind p h) (subst (Starts s 6) (sym e) (starts-first p n nil refl), subst Canonical (sym e) (h .3 .0))))
 
 -- a name selected from a canonical path is a canonical path, if its length can be written

@@ -1,10 +1,10 @@
 -- How long a name is without a final '!'. Assumes nothing.
 use mathlib.Core.Path.{_≡_, sym, _∙_}
-use Prim.Native.Nat.{ℕ, _-_, _<_}
+use Prim.Native.Nat.{_-_, _<_}
 use native.Mathlib.Omega.{arith}
-use native.Mathlib.Decide.{decLt}
 use lib.ListN.{length, getD, length-take}
 use borrow.Author.Tests.{eq-eqb, ne-eqb, lt-ltb, le-ltb}
+use Rattle.wire.proofs.Less.{at-least-one}
 use Rattle.rast.specs.Path.{Name}
 use Rattle.factor_paths.specs.LookUp.{bare}
 
@@ -14,14 +14,7 @@ module _ (name : Name) where
 
   module _ (n : length name ≡ 0 → ⊥) where
     filled : 0 < length name
-    filled = go (length name) n
-      where
-        go : (m : ℕ) → (m ≡ 0 → ⊥) → 0 < m
-        go m h =
-            elim (decLt 0 m) [
-              | yes a ↦ a
-              | no a ↦ absurd (h (omega (arith, a)))
-            ]
+    filled = let o = at-least-one (length name) n in omega arith
 
     pub bare-marked : getD name (length name - 1) 0 ≡ 33 → length name - 1 ≡ length (bare name)
     bare-marked h =

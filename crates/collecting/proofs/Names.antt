@@ -36,7 +36,8 @@ pub data Puts (s : Bytes) (o : ℕ) (a : Mapping) (S : Path) : Mapping → Type 
   nothing : o ≡ 0 → Puts s o a S a
   puts : (n : Name) → Named s o n → Puts s o a S (Add upstream a n S)
 
-is-text : (r : Record) → Fits r (one 0x01) → leaf 0x01 (text r) ≡ r
+-- a Text is its bytes under its kind
+pub is-text : (r : Record) → Fits r (one 0x01) → leaf 0x01 (text r) ≡ r
 unfolding contentAt
 is-text = leaf-right (one 0x01) 0x01 (one-kind 0x01) refl
 

@@ -9,6 +9,7 @@ use lib.ListN.{length, take, drop, length-take, length-drop}
 use lib.Dec.{eqb}
 use borrow.Author.Tests.{eq-eqb, ne-eqb}
 use Rattle.wire.specs.Numbers.{Bytes}
+use Rattle.wire.proofs.Less.{at-least-one}
 use Rattle.wire.proofs.Within.{Within, within-all, within-drop, within-front, within-own}
 use Rattle.records.specs.Record.{isLeaf, lengthOf, kindOf, restOf}
 use Rattle.records.specs.Kinds.{stands, kinds}
@@ -160,36 +161,36 @@ module _ (card prefix : Bytes) (words : List ℕ) (n from to k left : ℕ) where
   closed f j i t [] h = refl
   closed f j i t (r ∷ rs) h = rw (h i) (closed f j (suc i) t rs h)
 
-  self-type : visitedAs k ≡ aType → (t : List Stored) (c : Bytes) → gatherSelf prefix k t c ≡ cond (eqb k 0x2D) (gatherPath false t c) t
+  -- a type whose path is collected at 2D, an expression whose path is at 5C
+  self-path : (v : Visited) (j : ℕ) (inExpr : Bool) → ((t : List Stored) (c : Bytes) → gatherAs prefix v k t c ≡ cond (eqb k j) (gatherPath inExpr t c) t)
+      → visitedAs k ≡ v → (t : List Stored) (c : Bytes) → gatherSelf prefix k t c ≡ cond (eqb k j) (gatherPath inExpr t c) t
   unfolding gatherSelf
-  self-type v t c = ap (λ (x : Visited). gatherAs prefix x k t c) v
-
-  self-expr : visitedAs k ≡ anExpr → (t : List Stored) (c : Bytes) → gatherSelf prefix k t c ≡ cond (eqb k 0x5C) (gatherPath true t c) t
-  unfolding gatherSelf
-  self-expr v t c = ap (λ (x : Visited). gatherAs prefix x k t c) v
+  self-path v j inExpr h e t c = ap (λ (x : Visited). gatherAs prefix x k t c) e ∙ h t c
 
   module _ (w : List ℕ) (r : ℕ) where
+    module _ (v : Visited) (j : ℕ) (inExpr : Bool) (h : (t : List Stored) (c : Bytes) → gatherAs prefix v k t c ≡ cond (eqb k j) (gatherPath inExpr t c) t) (e : visitedAs k ≡ v) where
+      at-path : ((i : ℕ) → enters j i ≡ false) → k ≡ j → Makes card prefix words w n r (λ t. gatherPath inExpr t (between card from to)) → Makes card prefix words w n r Whole
+      unfolding gatherParts
+      at-path shut g m =
+          makes-same card prefix words w n r (λ t. gatherPath inExpr t (between card from to)) Whole
+          (λ t. closed (gather prefix left) k 0 (gatherSelf prefix k t (between card from to)) (recordsIn (between card from to)) (λ i. rw g (shut i)) ∙ self-path v j inExpr h e t (between card from to) ∙ rw (eq-eqb k j g)) m
+
+      at-other : (k ≡ j → ⊥) → Makes card prefix words w n r (λ t. gatherParts prefix left k t (between card from to)) → Makes card prefix words w n r Whole
+      at-other g m =
+          makes-same card prefix words w n r (λ t. gatherParts prefix left k t (between card from to)) Whole
+          (λ t. ap (λ (u : List Stored). gatherParts prefix left k u (between card from to)) (self-path v j inExpr h e t (between card from to) ∙ rw (ne-eqb k j g))) m
+
     pub type-path : visitedAs k ≡ aType → k ≡ 0x2D → Makes card prefix words w n r (λ t. gatherPath false t (between card from to)) → Makes card prefix words w n r Whole
-    unfolding gatherParts
-    type-path v h m =
-        makes-same card prefix words w n r (λ t. gatherPath false t (between card from to)) Whole
-        (λ t. closed (gather prefix left) k 0 (gatherSelf prefix k t (between card from to)) (recordsIn (between card from to)) (λ i. rw h) ∙ self-type v t (between card from to) ∙ rw (eq-eqb k 0x2D h)) m
+    type-path e = at-path aType 0x2D false (λ t c. refl) e (λ i. refl)
 
     pub type-other : visitedAs k ≡ aType → (k ≡ 0x2D → ⊥) → Makes card prefix words w n r (λ t. gatherParts prefix left k t (between card from to)) → Makes card prefix words w n r Whole
-    type-other v h m =
-        makes-same card prefix words w n r (λ t. gatherParts prefix left k t (between card from to)) Whole
-        (λ t. ap (λ (u : List Stored). gatherParts prefix left k u (between card from to)) (self-type v t (between card from to) ∙ rw (ne-eqb k 0x2D h))) m
+    type-other = at-other aType 0x2D false (λ t c. refl)
 
     pub expr-path : visitedAs k ≡ anExpr → k ≡ 0x5C → Makes card prefix words w n r (λ t. gatherPath true t (between card from to)) → Makes card prefix words w n r Whole
-    unfolding gatherParts
-    expr-path v h m =
-        makes-same card prefix words w n r (λ t. gatherPath true t (between card from to)) Whole
-        (λ t. closed (gather prefix left) k 0 (gatherSelf prefix k t (between card from to)) (recordsIn (between card from to)) (λ i. rw h) ∙ self-expr v t (between card from to) ∙ rw (eq-eqb k 0x5C h)) m
+    expr-path e = at-path anExpr 0x5C true (λ t c. refl) e (λ i. refl)
 
     pub expr-other : visitedAs k ≡ anExpr → (k ≡ 0x5C → ⊥) → Makes card prefix words w n r (λ t. gatherParts prefix left k t (between card from to)) → Makes card prefix words w n r Whole
-    expr-other v h m =
-        makes-same card prefix words w n r (λ t. gatherParts prefix left k t (between card from to)) Whole
-        (λ t. ap (λ (u : List Stored). gatherParts prefix left k u (between card from to)) (self-expr v t (between card from to) ∙ rw (ne-eqb k 0x5C h))) m
+    expr-other = at-other anExpr 0x5C true (λ t c. refl)
 
     pub decl-both : visitedAs k ≡ aDecl → (u : List ℕ) (m : ℕ) → Makes card prefix words u n m (λ t. gatherName prefix t k (between card from to))
         → Makes card prefix u w m r (λ t. gatherParts prefix left k t (between card from to)) → Makes card prefix words w n r Whole
@@ -232,11 +233,7 @@ module _ (card prefix : Bytes) (words : List ℕ) (n from to left : ℕ) where
 
   module _ (d : left ≡ 0 → ⊥) (s : Bytes) (k : ℕ) (e : s ≡ between card from to) (f : (k ≡ kindOf s) × (k < 65536)) where
     one-less : left ≡ suc (left - 1)
-    one-less = go left d
-      where
-        go : (m : ℕ) → (m ≡ 0 → ⊥) → m ≡ suc (m - 1)
-        go zero h = absurd (h refl)
-        go (suc m) h = omega arith
+    one-less = let o = at-least-one left d in omega arith
 
     stepped : (t : List Stored) → Record t
         ≡ cond (isLeaf k) t (gatherParts prefix (left - 1) k (gatherSelf prefix k t (drop 6 (between card from to))) (drop 6 (between card from to)))
@@ -260,8 +257,3 @@ module _ (card prefix : Bytes) (words : List ℕ) (n from to left : ℕ) where
 
     pub leaf-kept : k ≡ 3 → isLeaf k ≡ true
     leaf-kept h = rw h
-
--- what is not 0 is at least 1
-pub less-one : (m : ℕ) → (m ≡ 0 → ⊥) → 1 ≤ m
-less-one zero h = absurd (h refl)
-less-one (suc m) h = omega arith

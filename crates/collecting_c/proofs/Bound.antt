@@ -15,7 +15,7 @@ use Rattle.wire.specs.Numbers.{Bytes}
 use Rattle.rast.specs.Operation.{upstream}
 use Rattle.factor_paths.specs.Mapping.{pairs}
 use Rattle.outcome.specs.Outcome.{admitted}
-use Rattle.reading_c.proofs.Bound.{number-small, place, admitted-place}
+use Rattle.outcome.proofs.Places.{number-small, place, admitted-place}
 use Rattle.mapping.specs.Outermost.{outermostMapping, collectedAfter, collected, Leaves}
 use Rattle.mapping.specs.declared.Collected.{Collected}
 use Rattle.mapping.specs.declared.Collected.the-variants.{Pairs, Refusal}

@@ -1,5 +1,5 @@
 -- Which fields are entered, kind by kind as the code asks. Assumes nothing.
-use mathlib.Core.Path.{_≡_}
+use mathlib.Core.Path.{_≡_, sym}
 use mathlib.Core.Bool.{false, not}
 use Prim.Native.Nat.{ℕ}
 use lib.Dec.{eqb, ltb}
@@ -17,14 +17,9 @@ module _ (k i : ℕ) where
   pub no-type-params : k ≡ 0x7A → not (eqb i 0) ≡ enters k i
   no-type-params e = rw e (by-test (eqb i 0) (λ t. rw t) (λ t. rw t))
 
-  pub no-type-path : k ≡ 0x2D → false ≡ enters k i
-  no-type-path e = rw e
-
-  pub no-expr-path : k ≡ 0x5C → false ≡ enters k i
-  no-expr-path e = rw e
-
-  pub no-module : k ≡ 0x62 → false ≡ enters k i
-  no-module e = rw e
+  -- a kind of which nothing is entered
+  pub none-of : (j : ℕ) → ((i : ℕ) → enters j i ≡ false) → k ≡ j → false ≡ enters k i
+  none-of j h e = rw e (sym (h i))
 
   pub no-use : (k ≡ 0x37 → ⊥) → (k ≡ 0x70 → ⊥) → (k ≡ 0x7A → ⊥) → (k ≡ 0x2D → ⊥) → (k ≡ 0x5C → ⊥) → (k ≡ 0x62 → ⊥) → not (eqb k 0x6A) ≡ enters k i
   no-use a b c d e f =

@@ -1,7 +1,7 @@
 -- The outermost module: what is answered, by what admission and collecting say. Assumes nothing.
 use mathlib.Core.Path.{_≡_, refl, ap, sym, subst, _∙_}
 use mathlib.Core.List.{List, [], _∷_, _++_, append-nil}
-use Prim.Native.Nat.{ℕ, suc, _+_, _<_, _≤_}
+use Prim.Native.Nat.{ℕ, _+_, _<_, _≤_}
 use native.Mathlib.Omega.{arith}
 use lib.ListN.{length, take, drop, getD, replicate, length-take, length-drop, length-append}
 use borrow.Author.Tests.{lt-ltb, le-ltb}
@@ -9,7 +9,8 @@ use Rattle.answers.specs.declared.Answer.{Answer}
 use Rattle.answers.specs.declared.Answer.the-variants.{FullTable}
 use Rattle.answers.specs.declared.Verdict.{Verdict}
 use Rattle.answers.specs.declared.Verdict.the-variants.{Sound, Refused}
-use Rattle.wire.specs.Numbers.{Bytes, AreBytes}
+use Rattle.wire.specs.Numbers.{Bytes}
+use Rattle.wire.proofs.Numbers.{are-bytes}
 use Rattle.records.specs.Record.{leaf, encode, lengthOf, tree}
 use Rattle.records.specs.Kinds.{path, mod′}
 use Rattle.records.proofs.Tree.{Canonical, record-length}
@@ -32,11 +33,6 @@ use Rattle.collecting.proofs.Mapped.{name-record, selected-canonical, module-me
 use Rattle.mapping.specs.Outermost.{outermostPrefix, outermostMapping, collected, Leaves}
 use Rattle.mapping.specs.declared.Collected.{Collected}
 use Rattle.mapping.specs.declared.Collected.the-variants.{Pairs, Refusal}
-
-pub are-bytes : (s : Bytes) → ((i : ℕ) → getD s i 0 < 256) → AreBytes s
-unfolding AreBytes
-are-bytes [] h = tt
-are-bytes (b ∷ s) h = (h 0, are-bytes s (λ i. h (suc i)))
 
 module _ (card root : Bytes) (work : List ℕ) (v : Verdict) (e : v ≡ admitted upstream card root (length work)) where
   -- what is answered, and what the words are then

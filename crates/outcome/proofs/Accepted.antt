@@ -104,6 +104,10 @@ module _ (op : Operation) (card root out : Bytes) (work : List ℕ) (n : ℕ) wh
   unfolding shorten admitted
   passed-made p = rw (p .enough, p .brief, p .rooted, p .sound, p .table, p .room)
 
+  passed-admitted : Passed → admitted op card root (length work) ≡ Sound
+  unfolding admitted
+  passed-admitted p = rw (p .enough, p .brief, p .rooted, p .sound)
+
   passed : shorten op card root out work .answer ≡ Shortened n → Passed
   unfolding shorten admitted
   passed h =
@@ -128,13 +132,13 @@ module _ (op : Operation) (card root out : Bytes) (work : List ℕ) (n : ℕ) wh
   accepted h =
       let p : Passed = passed h in
       let e : shorten op card root out work ≡ made = passed-made p in
-      let r = both (leb (length root) (op .mostRootBytes)) (isSound (reading (op .rootDepth) path root)) (p .rooted) in
+      let a : Admitted op card root (length work) = admitted-sound op card root (length work) (passed-admitted p) in
       record {
-        words = ltb-false (length work) (op .fewestWords) (p .enough);
-        card-length = ltb-false (op .mostCardBytes) (length card) (p .brief);
-        root-length = leb-true (length root) (op .mostRootBytes) (r .0);
-        root-sound = is-sound (reading (op .rootDepth) path root) (r .1);
-        card-sound = p .sound;
+        words = a .enough;
+        card-length = a .card-length;
+        root-length = a .root-length;
+        root-sound = a .root-sound;
+        card-sound = a .card-sound;
         no-full-table = p .table;
         fits = ltb-false (length out) (length (output op card root out work)) (p .room);
         long = ap value (sym h ∙ ap (λ (o : Outcome). o .answer) e);

@@ -5,12 +5,12 @@ use mathlib.Core.Bool.{Bool, true, false, not, _&&_, cond}
 use Prim.Native.Nat.{ℕ, zero, suc, _+_, _-_, _<_, _≤_}
 use native.Mathlib.Omega.{arith}
 use lib.ListN.{length, take, drop, getD, length-drop}
-use lib.Seq.{take-all, take-take, take-nil, length-take-le, drop-drop}
+use lib.Seq.{take-take, take-nil, length-take-le, drop-drop}
 use lib.Dec.{eqb}
 use borrow.Author.Tests.{not-true, not-false, eq-eqb, ne-eqb}
 use Rattle.wire.specs.Numbers.{Bytes, sameBytes}
 use Rattle.wire.proofs.Slices.{tail-is}
-use Rattle.prefix.specs.Prefix.{firstRecord, recordAt, selection, baseOf, isSelection, prefixUpTo, prefixOf}
+use Rattle.prefix.specs.Prefix.{recordAt, selection, baseOf, isSelection, prefixUpTo, prefixOf}
 use Rattle.prefix.proofs.Selections.{select-base, select-room}
 
 -- what is left of the path, between two places, is compared with what is left of the whole
@@ -88,12 +88,7 @@ unfolding prefixUpTo
 left-none path card root chain from to i r z l e = let n : i ≡ 0 = omega arith in e ∙ sym (rw n at (l .peeled .same))
 
 -- the last of the names that are left, as it was read
-module _ (path card root : Bytes) (chain : List ℕ) (from to i : ℕ) (some : 0 < i) (l : Left path card root chain from to i) (s name : Bytes) (es : s ≡ take (length card) (drop (getD chain (i - 1) 0) card)) (en : name ≡ firstRecord s) where
-  is-name : name ≡ recordAt card (getD chain (i - 1) 0)
-  is-name =
-      let d = length-drop (getD chain (i - 1) 0) card in
-      en ∙ ap firstRecord (es ∙ take-all (length card) (drop (getD chain (i - 1) 0) card) (omega arith))
-
+module _ (path card root : Bytes) (chain : List ℕ) (from to i : ℕ) (some : 0 < i) (l : Left path card root chain from to i) (name : Bytes) (is-name : name ≡ recordAt card (getD chain (i - 1) 0)) where
   last : Peeled path (prefixOf card root chain) from to (selection (under card root chain (i - 1) name) name)
   last = let n : suc (i - 1) ≡ i = omega arith in rw (← name-last card root chain (i - 1) name is-name, n) (l .peeled)
 

@@ -42,7 +42,7 @@ pub fn is_prefix(path: &[u8], card: &[u8], root: &[u8], chain: &[usize]) -> bool
     let mut i = chain.len();
     while 0 < i {
         i -= 1;
-        let name = reader::record(wire::part(card, chain[i], card.len()));
+        let name = reader::record_at(card, chain[i]);
         if !selects(&path[from..to], name) {
             return false;
         }

@@ -9,7 +9,7 @@ use lib.Seq.{take-nil, take-all}
 use lib.Dec.{ltb}
 use borrow.Author.Tests.{lt-ltb, le-ltb}
 use Rattle.wire.specs.Numbers.{Bytes}
-use Rattle.wire.proofs.Slices.{end-is}
+use Rattle.wire.proofs.Slices.{end-is, tail-part}
 use Rattle.records.specs.Record.{lengthOf, contentOf, restOf}
 use Rattle.records.specs.Reading.{short}
 
@@ -54,3 +54,6 @@ pub short-past : (s : Bytes) (n : ℕ) → n ≡ lengthOf s → 6 ≤ length s �
 short-past s n e g h =
     let z : n + 4 ≡ 4 + lengthOf s = omega arith in
     rw (le-ltb (length s) 6 g, le-ltb (lengthOf s) 2 (omega arith)) (ap (ltb (length s)) z)
+
+pub record-at-is : (s p r : Bytes) (at : ℕ) → p ≡ take (length s) (drop at s) → r ≡ take (4 + lengthOf p) p → r ≡ take (4 + lengthOf (drop at s)) (drop at s)
+record-at-is s p r at e f = f ∙ ap (λ (x : Bytes). take (4 + lengthOf x) x) (tail-part s p at e)

@@ -87,3 +87,10 @@ pub fn record(s: &[u8]) -> &[u8]
 {
     wire::part(s, 0, record_length(s) + 4)
 }
+
+// The bytes of the record at a place.
+pub fn record_at(s: &[u8], at: usize) -> &[u8]
+    ensures { λ r. ⌜ now r ≡ take (4 + lengthOf (drop at (now (s .entry)))) (drop at (now (s .entry))) ⌝ }
+{
+    record(wire::part(s, at, s.len()))
+}

@@ -4,9 +4,9 @@ use mathlib.Core.Bool.{Bool, true, false}
 use mathlib.Core.List.{List}
 use Prim.Native.Nat.{ℕ, _+_, _*_, _/_, _<_, _≤_}
 use native.Mathlib.Omega.{arith}
-use native.Mathlib.Decide.{decLt}
 use lib.ListN.{length, take, drop}
 use borrow.Author.Tests.{eq-eqb, ne-eqb, lt-ltb, le-ltb}
+use Rattle.wire.proofs.Less.{less}
 use Rattle.wire.specs.Numbers.{Bytes}
 use Rattle.table.specs.Words.{baseIn, pairsIn, holdsPair, written, isThere, countAfter, wordsAfter}
 
@@ -40,8 +40,4 @@ module _ (card prefix : Bytes) (words : List ℕ) (n at len base : ℕ) where
 
 -- there is room for the four words of a pair that is not past the last
 pub inside : (words : List ℕ) (n i : ℕ) → n ≤ length words / 4 → (n ≡ length words / 4 → ⊥) → i < 4 → 4 * n + i < length words
-inside words n i h g l =
-    elim (decLt n (length words / 4)) [
-      | yes b ↦ omega arith
-      | no b ↦ absurd (g (omega (arith, b)))
-    ]
+inside words n i h g l = let b = less n (length words / 4) h g in omega arith

@@ -2,31 +2,16 @@
 use mathlib.Core.Path.{_≡_, ap, sym, _∙_}
 use mathlib.Core.Bool.{Bool, true, false, not}
 use mathlib.Core.List.{List}
-use Prim.Native.Nat.{ℕ, _+_, _-_}
-use native.Mathlib.Omega.{arith}
-use lib.ListN.{length, take, drop, length-drop}
-use lib.Seq.{take-all}
+use Prim.Native.Nat.{ℕ, _-_}
 use borrow.Author.Tests.{eq-eqb, ne-eqb, not-true, not-false}
 use Rattle.wire.specs.Numbers.{Bytes, sameBytes}
-use Rattle.wire.proofs.Numbers.{sameBytes-self, sameBytes-true}
-use Rattle.records.specs.Record.{encode, lengthOf}
+use Rattle.wire.proofs.Numbers.{sameBytes-self}
+use Rattle.records.specs.Record.{encode}
 use Rattle.rast.specs.Path.{«dafny_runtime»}
-use Rattle.rast.proofs.Tests.{both-ways}
-use Rattle.prefix.specs.Prefix.{firstRecord, recordAt}
+use Rattle.rast.proofs.Names.{turned, upstream-names}
+use Rattle.prefix.specs.Prefix.{recordAt}
 use Rattle.table.specs.Words.{nameAt, wordAt, baseIn}
 use Rattle.table.specs.First.{isNamed, isPair, isRuntime}
-
--- the part of the card from a place to its end is all from there on
-pub record-is : (card p r : Bytes) (at : ℕ) → p ≡ take (length card) (drop at card) → r ≡ take (4 + lengthOf p) p → r ≡ recordAt card at
-record-is card p r at e f =
-    let d : length (drop at card) ≡ length card - at = length-drop at card in
-    f ∙ ap firstRecord (e ∙ take-all (length card) (drop at card) (omega arith))
-
-same-turned : (a b : Bytes) → sameBytes a b ≡ sameBytes b a
-same-turned a b =
-    both-ways (sameBytes a b) (sameBytes b a)
-    (λ h. rw (sameBytes-true a b h) (sameBytes-self b))
-    (λ h. rw (sameBytes-true b a h) (sameBytes-self a))
 
 module _ (card prefix : Bytes) (a b : ℕ) where
   abbrev Same : Bool
@@ -38,7 +23,7 @@ module _ (card prefix : Bytes) (a b : ℕ) where
   module _ (n : a ≡ b → ⊥) where
     pub base-left : (x : Bytes) (r : Bool) → a ≡ 0 → x ≡ recordAt card b → r ≡ sameBytes x prefix → r ≡ Same
     unfolding baseIn
-    base-left x r z e f = f ∙ ap (λ (y : Bytes). sameBytes y prefix) e ∙ same-turned (recordAt card b) prefix ∙ rw (eq-eqb a 0 z, ne-eqb b 0 (λ h. n (z ∙ sym h)))
+    base-left x r z e f = f ∙ ap (λ (y : Bytes). sameBytes y prefix) e ∙ turned upstream-names (recordAt card b) prefix ∙ rw (eq-eqb a 0 z, ne-eqb b 0 (λ h. n (z ∙ sym h)))
 
     module _ (m : a ≡ 0 → ⊥) where
       pub base-right : (x : Bytes) (r : Bool) → b ≡ 0 → x ≡ recordAt card a → r ≡ sameBytes x prefix → r ≡ Same

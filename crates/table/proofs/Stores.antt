@@ -10,6 +10,7 @@ use lib.ListN.{length, take, drop, getD, set, length-set, length-append, List·g
 use lib.Seq.{getD-set-same, getD-set-other}
 use lib.Dec.{eqb}
 use borrow.Author.Tests.{lt-ltb, le-ltb, eqb-true, eqb-false}
+use Rattle.wire.proofs.Less.{less}
 use Rattle.wire.specs.Numbers.{Bytes}
 use Rattle.rast.proofs.Tests.{by-test}
 use Rattle.table.specs.Words.{Stored, stored, holdsPair, store, baseIn, pairAt, pairsFrom, pairsIn, room, Has, Makes, written, isThere, countAfter, wordsAfter}
@@ -139,13 +140,6 @@ module _ (card prefix : Bytes) where
                 (λ g. rw g (last r e (eqb-true n (room words) g)))
                 (λ g. rw g (new r e (let q : n ≡ room words → ⊥ = eqb-false n (room words) g in less n (room words) r q)))))))
           ]
-        where
-          less : (a b : ℕ) → a ≤ b → (a ≡ b → ⊥) → a < b
-          less a b u v =
-              elim (decLt a b) [
-                | yes w ↦ w
-                | no w ↦ absurd (v (omega (arith, w)))
-              ]
 
 -- steps over a table, one after the other
 module _ (card prefix : Bytes) where

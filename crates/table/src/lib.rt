@@ -4,17 +4,10 @@ ghost use mathlib.Core.Path.{_≡_};
 ghost use Prim.Native.Nat.{_*_, _+_, _-_, _≤_, _<_};
 ghost use lib.ListN.{length};
 ghost use Rattle.wire.specs.Numbers.{sameBytes};
-ghost use Rattle.prefix.specs.Prefix.{recordAt, prefixOf};
+ghost use Rattle.prefix.specs.Prefix.{prefixOf};
 ghost use Rattle.table.specs.Words.{baseIn, pairsIn, holdsPair, countAfter, wordsAfter};
 ghost use Rattle.table.specs.First.{first, isNamed, isPair, isRuntime};
 ghost use Rattle.table.specs.Choice.{basesNamed, choice, useOf, Picks};
-
-// The record at a place of the card.
-fn record_at(card: &[u8], at: usize) -> &[u8]
-    ensures { λ r. ⌜ now r ≡ recordAt (now (card .entry)) at ⌝ }
-{
-    reader::record(wire::part(card, at, card.len()))
-}
 
 // Whether two words say the same base.
 fn same_base(card: &[u8], root: &[u8], chain: &[usize], a: usize, b: usize) -> bool
@@ -24,12 +17,12 @@ fn same_base(card: &[u8], root: &[u8], chain: &[usize], a: usize, b: usize) -> b
         return true;
     }
     if a == 0 {
-        return prefix::is_prefix(record_at(card, b), card, root, chain);
+        return prefix::is_prefix(reader::record_at(card, b), card, root, chain);
     }
     if b == 0 {
-        return prefix::is_prefix(record_at(card, a), card, root, chain);
+        return prefix::is_prefix(reader::record_at(card, a), card, root, chain);
     }
-    wire::same(record_at(card, a), record_at(card, b))
+    wire::same(reader::record_at(card, a), reader::record_at(card, b))
 }
 
 // Whether pair i has this name.
@@ -77,7 +70,7 @@ fn is_runtime(card: &[u8], work: &[u32], i: usize, name: &[u8]) -> bool
     if w == 0 {
         return false;
     }
-    paths::is_runtime(record_at(card, w))
+    paths::is_runtime(reader::record_at(card, w))
 }
 
 // The first pair from one on that has this name; n where none of the first n pairs has.

@@ -2,3 +2,4 @@ pub mod Numbers
 pub mod Slices
 pub mod Alike
 pub mod Within
+pub mod Less

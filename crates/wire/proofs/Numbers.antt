@@ -140,3 +140,9 @@ gathered-all s from w n i h g =
 -- while a byte of four is left, what is gathered fits three
 pub gathered-below : (s : Bytes) (from w n i : ℕ) → w ≤ 4 → 0 < i → Gathered s from w n i → n < 16777216
 gathered-below s from w n i h p g = let m : 256 ^ (w - i) ≤ 256 ^ 3 = pow-le-pow-right (zero-lt-suc 255) {i = w - i} {j = 3} (omega arith) in let l = g .small in omega arith
+
+-- what has a byte at every place is bytes
+pub are-bytes : (s : Bytes) → ((i : ℕ) → getD s i 0 < 256) → AreBytes s
+unfolding AreBytes
+are-bytes [] h = tt
+are-bytes (b ∷ s) h = (h 0, are-bytes s (λ i. h (suc i)))

@@ -10,8 +10,7 @@ use Rattle.collect_cases.proofs.say.Reads as say-reads
 use Rattle.collect_cases.proofs.say_bytes.Reads as say-bytes-reads
 use Rattle.paths.proofs.is_runtime.Reads as is-runtime-reads
 use Rattle.prefix.proofs.is_prefix.Reads as is-prefix-reads
-use Rattle.reader.proofs.record.Reads as record-reads
-use Rattle.wire.proofs.part.Reads as part-reads
+use Rattle.reader.proofs.record_at.Reads as record-at-reads
 
 -- src/main.rt:56:13
 mul-k : tie.Need-mul-k
@@ -45,13 +44,9 @@ say-requires c κs = search needs
 returns : tie.Need-returns
 returns c = search needs
 
--- src/main.rt:62:31
-part-requires : tie.Need-part-requires
-part-requires c κs = search needs
-
 -- src/main.rt:62:9
-record-requires : tie.Need-record-requires
-record-requires c κs = search needs
+record-at-requires : tie.Need-record-at-requires
+record-at-requires c κs = search needs
 
 -- src/main.rt:63:8
 is-prefix-requires : tie.Need-is-prefix-requires
@@ -102,28 +97,4 @@ returns-4 : tie.Need-returns-4
 returns-4 c = search needs
 
 pub say-base-spec : {M : Type 1} → statement M
-say-base-spec =
-    tie.close
-    (tie.spec
-    mul-k
-    add-word
-    mul-word
-    shared-slice-read-word
-    cast-word
-    slice-aggregate-say
-    say-requires
-    returns
-    part-requires
-    record-requires
-    is-prefix-requires
-    slice-aggregate-say-2
-    say-requires-2
-    returns-2
-    is-runtime-requires
-    slice-aggregate-say-3
-    say-requires-3
-    returns-3
-    say-bytes-requires
-    slice-aggregate-say-4
-    say-requires-4
-    returns-4)
+say-base-spec = tie.close (tie.spec mul-k add-word mul-word shared-slice-read-word cast-word slice-aggregate-say say-requires returns record-at-requires is-prefix-requires slice-aggregate-say-2 say-requires-2 returns-2 is-runtime-requires slice-aggregate-say-3 say-requires-3 returns-3 say-bytes-requires slice-aggregate-say-4 say-requires-4 returns-4)

@@ -3,7 +3,8 @@ use mathlib.Core.Path.{_∙_}
 use native.Mathlib.Omega.{arith}
 use borrow.Author.Needs.{needs}
 use Rattle.prefix.specs.Prefix.{prefixOf}
-use Rattle.collecting.proofs.Ring.{Going, going-start, going-done, going-short, going-next, record-six, record-to, field-in, field-out, type-path, type-other, expr-path, expr-other, decl-both, plain, visited-type, visited-expr, visited-decl, visited-not, record-deep, record-leaf, record-node, leaf-text, leaf-kept, less-one}
+use Rattle.wire.proofs.Less.{at-least-one}
+use Rattle.collecting.proofs.Ring.{Going, going-start, going-done, going-short, going-next, record-six, record-to, field-in, field-out, type-path, type-other, expr-path, expr-other, decl-both, plain, visited-type, visited-expr, visited-decl, visited-not, record-deep, record-leaf, record-node, leaf-text, leaf-kept}
 use Prim.Native.Nat.{ℕ, _+_, _-_, _*_, _<_}
 use borrow.Fn.Kinds.{In}
 use borrow.Fn.PlainCycle.{Measures, is, falls, and}
@@ -639,7 +640,7 @@ collect-record-sub-collect-type : (t : ℕ) → collect-record-lts.Need-sub-coll
   collect-parts-below t,
   collect-parts.Post,
 ) (collect-record-at t) collect-record.Post
-collect-record-sub-collect-type t c = less-one _ (c .before .before .before .before .before .before .if1 .left)
+collect-record-sub-collect-type t c = at-least-one _ (c .before .before .before .before .before .before .if1 .left)
 
 -- src/lib.rt:238:9
 collect-record-collect-type-requires : (t : ℕ) → collect-record-lts.Need-collect-type-requires (
@@ -658,7 +659,7 @@ collect-record-collect-type-requires : (t : ℕ) → collect-record-lts.Need-col
   collect-parts-below t,
   collect-parts.Post,
 ) (collect-record-at t) collect-record.Post
-collect-record-collect-type-requires t c κs = (let u = less-one _ (c .before .before .before .before .before .before .before .if1 .left) in omega (arith, c .before .before .before .before .before .before .before .before .before .before .before .before .pre .0), (c .before .before .before .before .before .before .before .before .before .before .before .before .pre .1 .0, c .before .before .before .before .before .before .before .before .before .before .before .before .pre .1 .1, visited-type (c .before .before .before .before .before .record-kind .result) _ (c .before .before .stands .ensures) (c .before .if4 .taken), c .before .before .before .before .before .before .before .before .before .before .before .before .pre .1 .2))
+collect-record-collect-type-requires t c κs = (let u = at-least-one _ (c .before .before .before .before .before .before .before .if1 .left) in omega (arith, c .before .before .before .before .before .before .before .before .before .before .before .before .pre .0), (c .before .before .before .before .before .before .before .before .before .before .before .before .pre .1 .0, c .before .before .before .before .before .before .before .before .before .before .before .before .pre .1 .1, visited-type (c .before .before .before .before .before .record-kind .result) _ (c .before .before .stands .ensures) (c .before .if4 .taken), c .before .before .before .before .before .before .before .before .before .before .before .before .pre .1 .2))
 
 -- src/lib.rt:238:9
 collect-record-same-length : (t : ℕ) → collect-record-lts.Need-same-length (
@@ -734,7 +735,7 @@ collect-record-sub-collect-expr : (t : ℕ) → collect-record-lts.Need-sub-coll
   collect-parts-below t,
   collect-parts.Post,
 ) (collect-record-at t) collect-record.Post
-collect-record-sub-collect-expr t c = less-one _ (c .before .before .before .before .before .before .before .before .if1 .left)
+collect-record-sub-collect-expr t c = at-least-one _ (c .before .before .before .before .before .before .before .before .if1 .left)
 
 -- src/lib.rt:241:9
 collect-record-collect-expr-requires : (t : ℕ) → collect-record-lts.Need-collect-expr-requires (
@@ -753,7 +754,7 @@ collect-record-collect-expr-requires : (t : ℕ) → collect-record-lts.Need-col
   collect-parts-below t,
   collect-parts.Post,
 ) (collect-record-at t) collect-record.Post
-collect-record-collect-expr-requires t c κs = (let u = less-one _ (c .before .before .before .before .before .before .before .before .before .if1 .left) in omega (arith, c .before .before .before .before .before .before .before .before .before .before .before .before .before .before .pre .0), (c .before .before .before .before .before .before .before .before .before .before .before .before .before .before .pre .1 .0, c .before .before .before .before .before .before .before .before .before .before .before .before .before .before .pre .1 .1, visited-expr (c .before .before .before .before .before .before .before .record-kind .result) _ (c .before .before .before .before .stands .ensures) (c .before .before .before .if4 .left) _ (c .before .before .stands2 .ensures) (c .before .if5 .taken), c .before .before .before .before .before .before .before .before .before .before .before .before .before .before .pre .1 .2))
+collect-record-collect-expr-requires t c κs = (let u = at-least-one _ (c .before .before .before .before .before .before .before .before .before .if1 .left) in omega (arith, c .before .before .before .before .before .before .before .before .before .before .before .before .before .before .pre .0), (c .before .before .before .before .before .before .before .before .before .before .before .before .before .before .pre .1 .0, c .before .before .before .before .before .before .before .before .before .before .before .before .before .before .pre .1 .1, visited-expr (c .before .before .before .before .before .before .before .record-kind .result) _ (c .before .before .before .before .stands .ensures) (c .before .before .before .if4 .left) _ (c .before .before .stands2 .ensures) (c .before .if5 .taken), c .before .before .before .before .before .before .before .before .before .before .before .before .before .before .pre .1 .2))
 
 -- src/lib.rt:241:9
 collect-record-same-length-2 : (t : ℕ) → collect-record-lts.Need-same-length-2 (
@@ -829,7 +830,7 @@ collect-record-sub-collect-decl : (t : ℕ) → collect-record-lts.Need-sub-coll
   collect-parts-below t,
   collect-parts.Post,
 ) (collect-record-at t) collect-record.Post
-collect-record-sub-collect-decl t c = less-one _ (c .before .before .before .before .before .before .before .before .before .before .if1 .left)
+collect-record-sub-collect-decl t c = at-least-one _ (c .before .before .before .before .before .before .before .before .before .before .if1 .left)
 
 -- src/lib.rt:244:9
 collect-record-collect-decl-requires : (t : ℕ) → collect-record-lts.Need-collect-decl-requires (
@@ -848,7 +849,7 @@ collect-record-collect-decl-requires : (t : ℕ) → collect-record-lts.Need-col
   collect-parts-below t,
   collect-parts.Post,
 ) (collect-record-at t) collect-record.Post
-collect-record-collect-decl-requires t c κs = (let u = less-one _ (c .before .before .before .before .before .before .before .before .before .before .before .if1 .left) in omega (arith, c .before .before .before .before .before .before .before .before .before .before .before .before .before .before .before .before .pre .0), (c .before .before .before .before .before .before .before .before .before .before .before .before .before .before .before .before .pre .1 .0, c .before .before .before .before .before .before .before .before .before .before .before .before .before .before .before .before .pre .1 .1, visited-decl (c .before .before .before .before .before .before .before .before .before .record-kind .result) _ (c .before .before .before .before .before .before .stands .ensures) (c .before .before .before .before .before .if4 .left) _ (c .before .before .before .before .stands2 .ensures) (c .before .before .before .if5 .left) _ (c .before .before .stands3 .ensures) (c .before .if6 .taken), c .before .before .before .before .before .before .before .before .before .before .before .before .before .before .before .before .pre .1 .2))
+collect-record-collect-decl-requires t c κs = (let u = at-least-one _ (c .before .before .before .before .before .before .before .before .before .before .before .if1 .left) in omega (arith, c .before .before .before .before .before .before .before .before .before .before .before .before .before .before .before .before .pre .0), (c .before .before .before .before .before .before .before .before .before .before .before .before .before .before .before .before .pre .1 .0, c .before .before .before .before .before .before .before .before .before .before .before .before .before .before .before .before .pre .1 .1, visited-decl (c .before .before .before .before .before .before .before .before .before .record-kind .result) _ (c .before .before .before .before .before .before .stands .ensures) (c .before .before .before .before .before .if4 .left) _ (c .before .before .before .before .stands2 .ensures) (c .before .before .before .if5 .left) _ (c .before .before .stands3 .ensures) (c .before .if6 .taken), c .before .before .before .before .before .before .before .before .before .before .before .before .before .before .before .before .pre .1 .2))
 
 -- src/lib.rt:244:9
 collect-record-same-length-3 : (t : ℕ) → collect-record-lts.Need-same-length-3 (
@@ -905,7 +906,7 @@ collect-record-sub-collect-parts : (t : ℕ) → collect-record-lts.Need-sub-col
   collect-parts-below t,
   collect-parts.Post,
 ) (collect-record-at t) collect-record.Post
-collect-record-sub-collect-parts t c = less-one _ (c .before .before .before .before .before .before .before .before .before .before .if1 .left)
+collect-record-sub-collect-parts t c = at-least-one _ (c .before .before .before .before .before .before .before .before .before .before .if1 .left)
 
 -- src/lib.rt:246:5
 collect-record-collect-parts-requires : (t : ℕ) → collect-record-lts.Need-collect-parts-requires (
@@ -924,7 +925,7 @@ collect-record-collect-parts-requires : (t : ℕ) → collect-record-lts.Need-co
   collect-parts-below t,
   collect-parts.Post,
 ) (collect-record-at t) collect-record.Post
-collect-record-collect-parts-requires t c κs = (let u = less-one _ (c .before .before .before .before .before .before .before .before .before .before .before .if1 .left) in omega (arith, c .before .before .before .before .before .before .before .before .before .before .before .before .before .before .before .before .pre .0), (c .before .before .before .before .before .before .before .before .before .before .before .before .before .before .before .before .pre .1 .0, c .before .before .before .before .before .before .before .before .before .before .before .before .before .before .before .before .pre .1 .1, c .before .before .before .before .before .before .before .before .before .before .before .before .before .before .before .before .pre .1 .2))
+collect-record-collect-parts-requires t c κs = (let u = at-least-one _ (c .before .before .before .before .before .before .before .before .before .before .before .if1 .left) in omega (arith, c .before .before .before .before .before .before .before .before .before .before .before .before .before .before .before .before .pre .0), (c .before .before .before .before .before .before .before .before .before .before .before .before .before .before .before .before .pre .1 .0, c .before .before .before .before .before .before .before .before .before .before .before .before .before .before .before .before .pre .1 .1, c .before .before .before .before .before .before .before .before .before .before .before .before .before .before .before .before .pre .1 .2))
 
 -- src/lib.rt:222:1
 collect-record-same-length-4 : (t : ℕ) → collect-record-lts.Need-same-length-4 (

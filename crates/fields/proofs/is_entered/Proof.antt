@@ -1,5 +1,6 @@
 -- `fields::is_entered` meets its contract, kind by kind. Assumes nothing.
-use Rattle.fields.proofs.Entered.{first-only, no-fields, no-type-params, no-type-path, no-expr-path, no-module, no-use}
+use mathlib.Core.Path.{refl}
+use Rattle.fields.proofs.Entered.{first-only, no-fields, no-type-params, none-of, no-use}
 use Rattle.fields.proofs.is_entered.Statement.{statement}
 use Rattle.fields.proofs.is_entered.Tie as tie
 use Rattle.fields.proofs.is_entered.Reads as reads
@@ -19,15 +20,15 @@ returns-3 c = no-type-params (c .before .before .before .args .k) (c .before .be
 
 -- src/lib.rt:27:9
 returns-4 : tie.Need-returns-4
-returns-4 c = no-type-path (c .before .before .before .before .args .k) (c .before .before .before .before .args .i) (c .if4 .taken)
+returns-4 c = none-of (c .before .before .before .before .args .k) (c .before .before .before .before .args .i) 0x2D (λ i. refl) (c .if4 .taken)
 
 -- src/lib.rt:30:9
 returns-5 : tie.Need-returns-5
-returns-5 c = no-expr-path (c .before .before .before .before .before .args .k) (c .before .before .before .before .before .args .i) (c .if5 .taken)
+returns-5 c = none-of (c .before .before .before .before .before .args .k) (c .before .before .before .before .before .args .i) 0x5C (λ i. refl) (c .if5 .taken)
 
 -- src/lib.rt:33:9
 returns-6 : tie.Need-returns-6
-returns-6 c = no-module (c .before .before .before .before .before .before .args .k) (c .before .before .before .before .before .before .args .i) (c .if6 .taken)
+returns-6 c = none-of (c .before .before .before .before .before .before .args .k) (c .before .before .before .before .before .before .args .i) 0x62 (λ i. refl) (c .if6 .taken)
 
 -- src/lib.rt:14:1
 returns-7 : tie.Need-returns-7

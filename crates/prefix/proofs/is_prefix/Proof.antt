@@ -17,71 +17,68 @@ loop-holds c = left-all _ _ _ _
 sub-i : tie.Need-sub-i Inv-loop μ-loop
 sub-i c = search needs
 
-mul-part : tie.Need-mul-part Inv-loop μ-loop
-mul-part c = search needs
+mul-record-at : tie.Need-mul-record-at Inv-loop μ-loop
+mul-record-at c = search needs
 
-shared-slice-read-part : tie.Need-shared-slice-read-part Inv-loop μ-loop
-shared-slice-read-part c = omega (arith, c .before .before .loop .inv .counted)
+shared-slice-read-record-at : tie.Need-shared-slice-read-record-at Inv-loop μ-loop
+shared-slice-read-record-at c = omega (arith, c .before .before .loop .inv .counted)
 
-part-requires : tie.Need-part-requires Inv-loop μ-loop
-part-requires c κs = search needs
-
-record-requires : tie.Need-record-requires Inv-loop μ-loop
-record-requires c κs = search needs
+record-at-requires : tie.Need-record-at-requires Inv-loop μ-loop
+record-at-requires c κs = search needs
 
 sub-selects : tie.Need-sub-selects Inv-loop μ-loop
-sub-selects c = omega (arith, c .before .before .before .before .loop .inv .peeled .ordered)
+sub-selects c = omega (arith, c .before .before .before .loop .inv .peeled .ordered)
 
 part-selects-start : tie.Need-part-selects-start Inv-loop μ-loop
 part-selects-start c = search needs
 
 part-selects-end : tie.Need-part-selects-end Inv-loop μ-loop
-part-selects-end c = omega (arith, c .before .before .before .before .loop .inv .peeled .inside)
+part-selects-end c = omega (arith, c .before .before .before .loop .inv .peeled .inside)
 
 selects-requires : tie.Need-selects-requires Inv-loop μ-loop
 selects-requires c κs = search needs
 
 returns : tie.Need-returns Inv-loop μ-loop
-returns c = name-other _ _ _ _ _ _ _ (c .before .before .before .before .before .before .loop-test .taken) (c .before .before .before .before .before .before .before .loop .inv) _ _ (c .before .before .before .before .part .ensures) (c .before .before .before .«record» .ensures) _ (c .before .selects .ensures) (c .if1 .taken)
+returns c = name-other _ _ _ _ _ _ _ (c .before .before .before .before .before .loop-test .taken) (c .before .before .before .before .before .before .loop .inv) _ (c .before .before .before .record-at .ensures) _ (c .before .selects .ensures) (c .if1 .taken)
 
 add-from : tie.Need-add-from Inv-loop μ-loop
-add-from c = let r = name-room _ _ _ _ _ _ _ (c .before .before .before .before .before .before .loop-test .taken) (c .before .before .before .before .before .before .before .loop .inv) _ _ (c .before .before .before .before .part .ensures) (c .before .before .before .«record» .ensures) _ (c .before .selects .ensures) (c .if1 .left) in omega arith
+add-from c = let r = name-room _ _ _ _ _ _ _ (c .before .before .before .before .before .loop-test .taken) (c .before .before .before .before .before .before .loop .inv) _ (c .before .before .before .record-at .ensures) _ (c .before .selects .ensures) (c .if1 .left) in omega arith
 
 sub-to : tie.Need-sub-to Inv-loop μ-loop
-sub-to c = let r = name-room _ _ _ _ _ _ _ (c .before .before .before .before .before .before .loop-test .taken) (c .before .before .before .before .before .before .before .loop .inv) _ _ (c .before .before .before .before .part .ensures) (c .before .before .before .«record» .ensures) _ (c .before .selects .ensures) (c .if1 .left) in omega arith
+sub-to c = let r = name-room _ _ _ _ _ _ _ (c .before .before .before .before .before .loop-test .taken) (c .before .before .before .before .before .before .loop .inv) _ (c .before .before .before .record-at .ensures) _ (c .before .selects .ensures) (c .if1 .left) in omega arith
 
 sub-selects-2 : tie.Need-sub-selects-2 Inv-loop μ-loop
-sub-selects-2 c = let r = name-room _ _ _ _ _ _ _ (c .before .before .before .before .before .before .before .loop-test .taken) (c .before .before .before .before .before .before .before .before .loop .inv) _ _ (c .before .before .before .before .before .part .ensures) (c .before .before .before .before .«record» .ensures) _ (c .before .before .selects .ensures) (c .before .if1 .left) in omega arith
+sub-selects-2 c = let r = name-room _ _ _ _ _ _ _ (c .before .before .before .before .before .before .loop-test .taken) (c .before .before .before .before .before .before .before .loop .inv) _ (c .before .before .before .before .record-at .ensures) _ (c .before .before .selects .ensures) (c .before .if1 .left) in omega arith
 
 part-selects-start-2 : tie.Need-part-selects-start-2 Inv-loop μ-loop
-part-selects-start-2 c = let r = name-room _ _ _ _ _ _ _ (c .before .before .before .before .before .before .before .loop-test .taken) (c .before .before .before .before .before .before .before .before .loop .inv) _ _ (c .before .before .before .before .before .part .ensures) (c .before .before .before .before .«record» .ensures) _ (c .before .before .selects .ensures) (c .before .if1 .left) in omega arith
+part-selects-start-2 c = let r = name-room _ _ _ _ _ _ _ (c .before .before .before .before .before .before .loop-test .taken) (c .before .before .before .before .before .before .before .loop .inv) _ (c .before .before .before .before .record-at .ensures) _ (c .before .before .selects .ensures) (c .before .if1 .left) in omega arith
 
 part-selects-end-2 : tie.Need-part-selects-end-2 Inv-loop μ-loop
-part-selects-end-2 c = let r = name-room _ _ _ _ _ _ _ (c .before .before .before .before .before .before .before .loop-test .taken) (c .before .before .before .before .before .before .before .before .loop .inv) _ _ (c .before .before .before .before .before .part .ensures) (c .before .before .before .before .«record» .ensures) _ (c .before .before .selects .ensures) (c .before .if1 .left) in omega arith
+part-selects-end-2 c = let r = name-room _ _ _ _ _ _ _ (c .before .before .before .before .before .before .loop-test .taken) (c .before .before .before .before .before .before .before .loop .inv) _ (c .before .before .before .before .record-at .ensures) _ (c .before .before .selects .ensures) (c .before .if1 .left) in omega arith
 
 selects-requires-2 : tie.Need-selects-requires-2 Inv-loop μ-loop
 selects-requires-2 c κs = search needs
 
 returns-2 : tie.Need-returns-2 Inv-loop μ-loop
-returns-2 c = again-other _ _ _ _ _ _ _ (c .before .before .before .before .before .before .before .before .before .before .loop-test .taken) (c .before .before .before .before .before .before .before .before .before .before .before .loop .inv) _ _ (c .before .before .before .before .before .before .before .before .part .ensures) (c .before .before .before .before .before .before .before .«record» .ensures) _ (c .before .before .before .before .before .selects .ensures) (c .before .before .before .before .if1 .left) (c .before .before .before .if2 .taken) _ (c .before .selects2 .ensures) (c .if3 .taken)
+returns-2 c = again-other _ _ _ _ _ _ _ (c .before .before .before .before .before .before .before .before .before .loop-test .taken) (c .before .before .before .before .before .before .before .before .before .before .loop .inv) _ (c .before .before .before .before .before .before .before .record-at .ensures) _ (c .before .before .before .before .before .selects .ensures) (c .before .before .before .before .if1 .left) (c .before .before .before .if2 .taken) _ (c .before .selects2 .ensures) (c .if3 .taken)
 
 add-from-2 : tie.Need-add-from-2 Inv-loop μ-loop
-add-from-2 c = let r = again-room _ _ _ _ _ _ _ (c .before .before .before .before .before .before .before .before .before .before .loop-test .taken) (c .before .before .before .before .before .before .before .before .before .before .before .loop .inv) _ _ (c .before .before .before .before .before .before .before .before .part .ensures) (c .before .before .before .before .before .before .before .«record» .ensures) _ (c .before .before .before .before .before .selects .ensures) (c .before .before .before .before .if1 .left) (c .before .before .before .if2 .taken) _ (c .before .selects2 .ensures) (c .if3 .left) in omega arith
+add-from-2 c = let r = again-room _ _ _ _ _ _ _ (c .before .before .before .before .before .before .before .before .before .loop-test .taken) (c .before .before .before .before .before .before .before .before .before .before .loop .inv) _ (c .before .before .before .before .before .before .before .record-at .ensures) _ (c .before .before .before .before .before .selects .ensures) (c .before .before .before .before .if1 .left) (c .before .before .before .if2 .taken) _ (c .before .selects2 .ensures) (c .if3 .left) in omega arith
 
 sub-to-2 : tie.Need-sub-to-2 Inv-loop μ-loop
-sub-to-2 c = let r = again-room _ _ _ _ _ _ _ (c .before .before .before .before .before .before .before .before .before .before .loop-test .taken) (c .before .before .before .before .before .before .before .before .before .before .before .loop .inv) _ _ (c .before .before .before .before .before .before .before .before .part .ensures) (c .before .before .before .before .before .before .before .«record» .ensures) _ (c .before .before .before .before .before .selects .ensures) (c .before .before .before .before .if1 .left) (c .before .before .before .if2 .taken) _ (c .before .selects2 .ensures) (c .if3 .left) in omega arith
+sub-to-2 c = let r = again-room _ _ _ _ _ _ _ (c .before .before .before .before .before .before .before .before .before .loop-test .taken) (c .before .before .before .before .before .before .before .before .before .before .loop .inv) _ (c .before .before .before .before .before .before .before .record-at .ensures) _ (c .before .before .before .before .before .selects .ensures) (c .before .before .before .before .if1 .left) (c .before .before .before .if2 .taken) _ (c .before .selects2 .ensures) (c .if3 .left) in omega arith
 
 loop-less : tie.Need-loop-less Inv-loop μ-loop
 loop-less c = search needs
 
 loop-again : tie.Need-loop-again Inv-loop μ-loop
-loop-again c = nested-next _ _ _ _ _ _ _ (c .before .before .before .before .before .before .before .before .before .before .loop-test .taken) (c .before .before .before .before .before .before .before .before .before .before .before .loop .inv) _ _ (c .before .before .before .before .before .before .before .before .part .ensures) (c .before .before .before .before .before .before .before .«record» .ensures) _ (c .before .before .before .before .before .selects .ensures) (c .before .before .before .before .if1 .left) (c .before .before .before .if2 .taken) _ (c .before .selects2 .ensures) (c .if3 .left)
+loop-again c = nested-next _ _ _ _ _ _ _ (c .before .before .before .before .before .before .before .before .before .loop-test .taken) (c .before .before .before .before .before .before .before .before .before .before .loop .inv) _ (c .before .before .before .before .before .before .before .record-at .ensures) _ (c .before .before .before .before .before .selects .ensures) (c .before .before .before .before .if1 .left) (c .before .before .before .if2 .taken) _ (c .before .selects2 .ensures) (c .if3 .left)
 
 loop-less-2 : tie.Need-loop-less-2 Inv-loop μ-loop
 loop-less-2 c = search needs
 
 loop-again-2 : tie.Need-loop-again-2 Inv-loop μ-loop
-loop-again-2 c = outermost-next _ _ _ _ _ _ _ (c .before .before .before .before .before .before .before .loop-test .taken) (c .before .before .before .before .before .before .before .before .loop .inv) _ _ (c .before .before .before .before .before .part .ensures) (c .before .before .before .before .«record» .ensures) _ (c .before .before .selects .ensures) (c .before .if1 .left) (c .if2 .left)
+loop-again-2 c = outermost-next _ _ _ _ _ _ _ (c .before .before .before .before .before .before .loop-test .taken) (c .before .before .before .before .before .before .before .loop .inv) _ (c .before .before .before .before .record-at .ensures) _ (c .before .before .selects .ensures) (c .before .if1 .left) (c .if2 .left)
 
 sub-same : tie.Need-sub-same Inv-loop μ-loop
 sub-same c = search needs
@@ -99,37 +96,4 @@ returns-3 : tie.Need-returns-3 Inv-loop μ-loop
 returns-3 c = left-none _ _ _ _ _ _ _ _ (c .before .before .loop-test .left) (c .before .before .before .loop .inv) (c .same .ensures)
 
 pub is-prefix-spec : {M : Type 1} → statement M
-is-prefix-spec =
-    tie.close
-    (tie.spec
-    Inv-loop
-    μ-loop
-    loop-holds
-    sub-i
-    mul-part
-    shared-slice-read-part
-    part-requires
-    record-requires
-    sub-selects
-    part-selects-start
-    part-selects-end
-    selects-requires
-    returns
-    add-from
-    sub-to
-    sub-selects-2
-    part-selects-start-2
-    part-selects-end-2
-    selects-requires-2
-    returns-2
-    add-from-2
-    sub-to-2
-    loop-less
-    loop-again
-    loop-less-2
-    loop-again-2
-    sub-same
-    part-same-start
-    part-same-end
-    same-requires
-    returns-3)
+is-prefix-spec = tie.close (tie.spec Inv-loop μ-loop loop-holds sub-i mul-record-at shared-slice-read-record-at record-at-requires sub-selects part-selects-start part-selects-end selects-requires returns add-from sub-to sub-selects-2 part-selects-start-2 part-selects-end-2 selects-requires-2 returns-2 add-from-2 sub-to-2 loop-less loop-again loop-less-2 loop-again-2 sub-same part-same-start part-same-end same-requires returns-3)

@@ -8,7 +8,7 @@ use Rattle.table.proofs.is_runtime.Reads as reads
 use Rattle.table.proofs.is_runtime.Lts as lts
 use Rattle.paths.proofs.is_runtime.Reads as is-runtime-reads
 use Rattle.table.proofs.is_named.Reads as is-named-reads
-use Rattle.table.proofs.record_at.Reads as record-at-reads
+use Rattle.reader.proofs.record_at.Reads as record-at-reads
 
 -- src/lib.rt:69:9
 is-named-requires : tie.Need-is-named-requires

@@ -5,7 +5,7 @@ use Rattle.table.proofs.same_base.Tie as tie
 use Rattle.table.proofs.same_base.Reads as reads
 use Rattle.table.proofs.same_base.Lts as lts
 use Rattle.prefix.proofs.is_prefix.Reads as is-prefix-reads
-use Rattle.table.proofs.record_at.Reads as record-at-reads
+use Rattle.reader.proofs.record_at.Reads as record-at-reads
 use Rattle.wire.proofs.same.Reads as same-reads
 
 -- src/lib.rt:24:9

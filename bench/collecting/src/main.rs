@@ -4,7 +4,7 @@ use std::process::ExitCode;
 use std::time::{Duration, Instant};
 use yardstick::collect::count;
 use yardstick::own;
-use yardstick::text;
+use yardstick::text::{self, Vector};
 
 const ROUNDS: usize = 15;
 const PASSES: usize = 10;
@@ -92,13 +92,10 @@ fn measure(what: &str, cases: &[Accepted], work: &mut [u32]) {
 }
 
 fn main() -> ExitCode {
-    let vectors = match text::vectors() {
-        Ok(vectors) => vectors,
-        Err(e) => {
-            println!("{e}");
-            return ExitCode::from(2);
-        }
-    };
+    text::with_vectors(run)
+}
+
+fn run(vectors: Vec<Vector>) -> ExitCode {
     let mut cases: Vec<Case> = vectors
         .into_iter()
         .map(|v| Case {

@@ -1,5 +1,7 @@
 //! Bytes as hexadecimal digits, `-` for none, and the vectors.
 
+use std::process::ExitCode;
+
 pub fn bytes(digits: &str) -> Option<Vec<u8>> {
     if digits == "-" {
         return Some(Vec::new());
@@ -47,7 +49,7 @@ fn vector(line: &str) -> Option<Vector> {
 }
 
 /// The vectors of the file named by the first argument, or what is wrong with it.
-pub fn vectors() -> Result<Vec<Vector>, String> {
+fn vectors() -> Result<Vec<Vector>, String> {
     const FORM: &str = "ROOT CARD OUTLEN WORKLEN = ANSWER";
     let name =
         std::env::args_os().nth(1).ok_or_else(|| format!("give a file of cases, one to a line: {FORM}"))?;
@@ -57,4 +59,15 @@ pub fn vectors() -> Result<Vec<Vector>, String> {
         .enumerate()
         .map(|(i, line)| vector(line).ok_or_else(|| format!("line {} is no case: {FORM}", i + 1)))
         .collect()
+}
+
+/// A program over the vectors: what is wrong with their file goes to standard error.
+pub fn with_vectors(run: impl FnOnce(Vec<Vector>) -> ExitCode) -> ExitCode {
+    vectors().map_or_else(
+        |e| {
+            eprintln!("{e}");
+            ExitCode::from(2)
+        },
+        run,
+    )
 }

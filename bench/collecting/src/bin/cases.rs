@@ -5,7 +5,7 @@ use std::collections::{BTreeMap, HashSet};
 use std::process::ExitCode;
 use yardstick::collect::count;
 use yardstick::own;
-use yardstick::text::{self, digits};
+use yardstick::text::{self, digits, Vector};
 
 /// The most bytes of all cases.
 const ROOM: usize = 1_195_000;
@@ -23,13 +23,10 @@ fn line(root: &[u8], card: &[u8], words: usize) -> String {
 }
 
 fn main() -> ExitCode {
-    let vectors = match text::vectors() {
-        Ok(vectors) => vectors,
-        Err(e) => {
-            eprintln!("{e}");
-            return ExitCode::from(2);
-        }
-    };
+    text::with_vectors(run)
+}
+
+fn run(vectors: Vec<Vector>) -> ExitCode {
     let mut sorts: BTreeMap<String, usize> = BTreeMap::new();
     let mut seen = HashSet::new();
     let mut lines = Vec::new();

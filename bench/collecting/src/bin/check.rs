@@ -92,13 +92,10 @@ fn difference(v: &Vector) -> Option<String> {
 }
 
 fn main() -> ExitCode {
-    let vectors = match text::vectors() {
-        Ok(vectors) => vectors,
-        Err(e) => {
-            println!("{e}");
-            return ExitCode::from(2);
-        }
-    };
+    text::with_vectors(run)
+}
+
+fn run(vectors: Vec<Vector>) -> ExitCode {
     let mut differ = 0;
     for (i, v) in vectors.iter().enumerate() {
         if let Some(how) = difference(v) {

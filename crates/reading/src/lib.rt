@@ -12,7 +12,7 @@ ghost use Rattle.reading.specs.Codes.{codeIn, Valid};
 
 // The place of record j in the content of a record of kind k that stands at place c; 0 where no more may come. Here and below, t is the
 // table of rows.
-fn place_in(c: usize, k: usize, j: usize, t: &[u8]) -> usize
+fn place_in(c: usize, k: usize, j: usize, t: &[u64]) -> usize
     requires { ⌜ now t ≡ table ⌝ }
     ensures { λ r. ⌜ r ≡ codeIn c k j ⌝ }
 {
@@ -46,7 +46,7 @@ fn holds_bytes(c: usize, k: usize) -> bool
 }
 
 // The content s of a record of kind k that stands at place c. It stands at place at of the card, and its records may go left deep.
-fn read_content(s: &[u8], c: usize, k: usize, left: usize, at: usize, t: &[u8]) -> Verdict
+fn read_content(s: &[u8], c: usize, k: usize, left: usize, at: usize, t: &[u64]) -> Verdict
     requires { ⌜ (Valid c) × (at + length (now s) < 2 ^ 64) × (now t ≡ table) ⌝ }
     ensures { λ r. ⌜ r ≡ reads left (contentAt (placeOf c) k) at (now (s .entry)) ⌝ }
 {
@@ -82,7 +82,7 @@ fn read_content(s: &[u8], c: usize, k: usize, left: usize, at: usize, t: &[u8]) 
 }
 
 // One record at place p, with its content.
-fn read_record(s: &[u8], p: usize, left: usize, at: usize, t: &[u8]) -> Verdict
+fn read_record(s: &[u8], p: usize, left: usize, at: usize, t: &[u64]) -> Verdict
     requires { ⌜ (Valid p) × (at + length (now s) < 2 ^ 64) × (now t ≡ table) ⌝ }
     ensures { λ r. ⌜ r ≡ readsRecord left (placeOf p) at (now (s .entry)) ⌝ }
 {

@@ -7,7 +7,7 @@ use Prim.Native.Nat.{ℕ, zero, suc, _+_, _-_, _%_, _<_, _≤_}
 use native.Mathlib.Nat.{add-zero, zero-add, add-suc, suc-add, le-of-suc-le-suc, not-suc-le-zero}
 use native.Mathlib.Omega.{arith}
 use native.Mathlib.Decide.{decLt}
-use lib.ListN.{length, getD, drop, length-map, List·getD-eq-default}
+use lib.ListN.{length, getD, drop, List·getD-eq-default}
 use lib.Seq.{drop-nil}
 use lib.Dec.{eqb, leb, ltb}
 use borrow.Author.Tests.{eqb-true, ltb-true, leb-true, le-leb, lt-leb}
@@ -56,15 +56,15 @@ rightPlaces [] = true
 rightPlaces (p ∷ ps) = rightPlace p && rightPlaces ps
 
 rightRow : ℕ → List Place → Bool
-rightRow k ps = ltb k 135 && (leb (length ps) 6 && rightPlaces ps)
+rightRow k ps = ltb k 135 && (leb (length ps) 8 && rightPlaces ps)
 
 rightRows : List Row → Bool
 rightRows [] = true
 rightRows (r ∷ rs) = rightRow (r .kind) (r .places) && rightRows rs
 
--- so a row has at most six places, a kind from 135 on has none, and each place is right
+-- so a row has at most eight places, a kind from 135 on has none, and each place is right
 record Right (k : ℕ) (ps : List Place) : Type 0 where
-  short : length ps ≤ 6
+  short : length ps ≤ 8
   past : 135 ≤ k → ps ≡ []
   places : rightPlaces ps ≡ true
 
@@ -75,10 +75,10 @@ right-none k = record { short = omega arith; past = λ h. refl; places = refl }
 right-row : (k : ℕ) (ps : List Place) → rightRow k ps ≡ true → Right k ps
 unfolding rightRow
 right-row k ps t =
-    let a = both (ltb k 135) (leb (length ps) 6 && rightPlaces ps) t in
-    let b = both (leb (length ps) 6) (rightPlaces ps) (a .1) in
+    let a = both (ltb k 135) (leb (length ps) 8 && rightPlaces ps) t in
+    let b = both (leb (length ps) 8) (rightPlaces ps) (a .1) in
     let l = ltb-true k 135 (a .0) in
-    record { short = leb-true (length ps) 6 (b .0); past = λ h. absurd (omega arith); places = b .1 }
+    record { short = leb-true (length ps) 8 (b .0); past = λ h. absurd (omega arith); places = b .1 }
 
 right-in : (rs : List Row) → rightRows rs ≡ true → (k : ℕ) → Right k (rowIn rs k)
 unfolding rightRows
@@ -169,17 +169,12 @@ code-option k j h =
     let s = code-number k j .some (omega arith) in
     omega arith
 
--- past the table: no place
-pub code-past : (k j : ℕ) → 135 ≤ k → codeAt k j ≡ 0
-unfolding codeAt
-code-past k j h = rw (right k .past h)
+-- a row's places fit in eight bytes, and past the table there is none
+pub row-short : (k : ℕ) → length (rowOf k) ≤ 8
+row-short k = right k .short
 
-pub code-beyond : (k j : ℕ) → 6 ≤ j → codeAt k j ≡ 0
-unfolding codeAt
-code-beyond k j h =
-    let l = right k .short in
-    let m = length-map (rowOf k) codeOf in
-    List·getD-eq-default (map codeOf (rowOf k)) 0 {n = j} (omega arith)
+pub row-past : (k : ℕ) → 135 ≤ k → rowOf k ≡ []
+row-past k h = right k .past h
 
 -- the place that a number means: under 32 of one record, from 32 on a seq, from 64 on an Option
 pub place-one : (c : ℕ) → c < 32 → placeOf c ≡ baseOf c

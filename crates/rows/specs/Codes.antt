@@ -1,9 +1,10 @@
 -- The places of the rows as numbers, and the row of a kind as such numbers. Assumes nothing: these are definitions.
-use mathlib.Core.List.{List, [], _∷_, _++_, map}
+use mathlib.Core.List.{List, [], _∷_, map}
 use mathlib.Core.Bool.{Bool, true, false, _&&_, cond}
-use Prim.Native.Nat.{ℕ, zero, suc, _+_, _-_, _*_}
+use Prim.Native.Nat.{ℕ, zero, suc, _+_, _-_}
 use lib.ListN.{getD}
-use lib.Dec.{eqb, leb, ltb}
+use lib.Dec.{eqb, leb}
+use Rattle.wire.specs.Numbers.{le, num}
 use Rattle.records.specs.Kinds.{Place, kinds, one, name, seq, option, path, type, expr, mod′, rowOf}
 
 -- the places of one record, from 0: none
@@ -52,20 +53,14 @@ codeOf (option p) = 64 + indexIn bases p
 unfoldable pub codeAt : ℕ → ℕ → ℕ
 codeAt k j = getD (map codeOf (rowOf k)) j 0
 
--- a row as bytes: the first n elements, with 0 where there are none
-unfoldable pub padded : ℕ → List ℕ → List ℕ
-padded zero s = []
-padded (suc n) [] = 0 ∷ padded n []
-padded (suc n) (x ∷ s) = x ∷ padded n s
-
--- six numbers for each of n kinds from a on
+-- a row for each of n kinds from a on: the number whose bytes are the places' numbers, the first place's the lowest
 unfoldable pub tableFrom : (n a : ℕ) → List ℕ
 tableFrom zero a = []
-tableFrom (suc n) a = padded 6 (map codeOf (rowOf a)) ++ tableFrom n (suc a)
+tableFrom (suc n) a = num (map codeOf (rowOf a)) ∷ tableFrom n (suc a)
 
 unfoldable pub table : List ℕ
 table = tableFrom 135 0
 
--- what a table of rows says of field j of kind k
+-- what a table of rows says of field j of kind k: byte j of row k
 unfoldable pub codeFrom : List ℕ → ℕ → ℕ → ℕ
-codeFrom t k j = cond (ltb k 135) (cond (ltb j 6) (getD t (k * 6 + j) 0) 0) 0
+codeFrom t k j = getD (le 8 (getD t k 0)) j 0

@@ -1,901 +1,224 @@
-// The rows of child places, one for each kind, and which kinds may stand at a place. A place is a number: 0 is none, 1 to 26 one record,
-// 32 more a seq of it, 64 more an Option of it.
+// The rows of child places, one for each kind, and which kinds may stand at a place. A place is a number: 0 is none, 1 to 0x1A one record,
+// 0x20 more a seq of it, 0x40 more an Option of it. FIRST names the places of one record.
 ghost use mathlib.Core.Path.{_≡_};
 ghost use Rattle.records.specs.Kinds.{stands};
 ghost use Rattle.rows.specs.Codes.{placeOf, codeFrom, table as Codes·table};
 
-// Six places for each kind from 0 to 0x86.
-const ROWS: [u8; 810] = [
-    0,
-    0,
-    0,
-    0,
-    0,
-    0,
-    0,
-    0,
-    0,
-    0,
-    0,
-    0,
-    0,
-    0,
-    0,
-    0,
-    0,
-    0,
-    0,
-    0,
-    0,
-    0,
-    0,
-    0,
-    0,
-    0,
-    0,
-    0,
-    0,
-    0,
-    0,
-    0,
-    0,
-    0,
-    0,
-    0,
-    0,
-    0,
-    0,
-    0,
-    0,
-    0,
-    0,
-    0,
-    0,
-    0,
-    0,
-    0,
-    0,
-    0,
-    0,
-    0,
-    0,
-    0,
-    0,
-    0,
-    0,
-    0,
-    0,
-    0,
-    0,
-    0,
-    0,
-    0,
-    0,
-    0,
-    0,
-    0,
-    0,
-    0,
-    0,
-    0,
-    0,
-    0,
-    0,
-    0,
-    0,
-    0,
-    0,
-    0,
-    0,
-    0,
-    0,
-    0,
-    0,
-    0,
-    0,
-    0,
-    0,
-    0,
-    0,
-    0,
-    0,
-    0,
-    0,
-    0,
-    0,
-    0,
-    0,
-    0,
-    0,
-    0,
-    0,
-    0,
-    0,
-    0,
-    0,
-    0,
-    0,
-    0,
-    0,
-    0,
-    0,
-    0,
-    4,
-    3,
-    0,
-    0,
-    0,
-    0,
-    0,
-    0,
-    0,
-    0,
-    0,
-    0,
-    0,
-    0,
-    0,
-    0,
-    0,
-    0,
-    0,
-    0,
-    0,
-    0,
-    0,
-    0,
-    0,
-    0,
-    0,
-    0,
-    0,
-    0,
-    0,
-    0,
-    0,
-    0,
-    0,
-    0,
-    0,
-    0,
-    0,
-    0,
-    0,
-    0,
-    0,
-    0,
-    0,
-    0,
-    0,
-    0,
-    0,
-    0,
-    0,
-    0,
-    0,
-    0,
-    0,
-    0,
-    0,
-    0,
-    0,
-    0,
-    0,
-    0,
-    0,
-    0,
-    0,
-    0,
-    0,
-    0,
-    0,
-    0,
-    0,
-    0,
-    0,
-    0,
-    0,
-    0,
-    0,
-    0,
-    0,
-    0,
-    0,
-    0,
-    0,
-    0,
-    0,
-    0,
-    0,
-    0,
-    0,
-    0,
-    0,
-    0,
-    0,
-    0,
-    0,
-    0,
-    0,
-    0,
-    0,
-    0,
-    0,
-    0,
-    0,
-    0,
-    0,
-    0,
-    0,
-    0,
-    0,
-    0,
-    0,
-    0,
-    0,
-    0,
-    0,
-    0,
-    0,
-    0,
-    0,
-    0,
-    0,
-    0,
-    0,
-    0,
-    0,
-    0,
-    0,
-    0,
-    0,
-    0,
-    0,
-    0,
-    0,
-    0,
-    0,
-    0,
-    0,
-    0,
-    0,
-    0,
-    0,
-    0,
-    0,
-    0,
-    0,
-    0,
-    0,
-    0,
-    0,
-    0,
-    1,
-    0,
-    0,
-    0,
-    0,
-    0,
-    4,
-    0,
-    0,
-    0,
-    0,
-    0,
-    5,
-    37,
-    0,
-    0,
-    0,
-    0,
-    5,
-    0,
-    0,
-    0,
-    0,
-    0,
-    5,
-    0,
-    0,
-    0,
-    0,
-    0,
-    5,
-    0,
-    0,
-    0,
-    0,
-    0,
-    5,
-    0,
-    0,
-    0,
-    0,
-    0,
-    37,
-    0,
-    0,
-    0,
-    0,
-    0,
-    37,
-    5,
-    0,
-    0,
-    0,
-    0,
-    5,
-    5,
-    0,
-    0,
-    0,
-    0,
-    5,
-    65,
-    0,
-    0,
-    0,
-    0,
-    5,
-    5,
-    0,
-    0,
-    0,
-    0,
-    5,
-    2,
-    2,
-    0,
-    0,
-    0,
-    0,
-    0,
-    0,
-    0,
-    0,
-    0,
-    0,
-    0,
-    0,
-    0,
-    0,
-    0,
-    0,
-    0,
-    0,
-    0,
-    0,
-    0,
-    0,
-    0,
-    0,
-    0,
-    0,
-    0,
-    0,
-    0,
-    0,
-    0,
-    0,
-    0,
-    0,
-    0,
-    0,
-    0,
-    0,
-    0,
-    0,
-    0,
-    0,
-    0,
-    0,
-    0,
-    1,
-    0,
-    0,
-    0,
-    0,
-    0,
-    5,
-    0,
-    0,
-    0,
-    0,
-    0,
-    1,
-    0,
-    0,
-    0,
-    0,
-    0,
-    6,
-    56,
-    0,
-    0,
-    0,
-    0,
-    6,
-    6,
-    0,
-    0,
-    0,
-    0,
-    6,
-    0,
-    0,
-    0,
-    0,
-    0,
-    6,
-    57,
-    0,
-    0,
-    0,
-    0,
-    38,
-    0,
-    0,
-    0,
-    0,
-    0,
-    1,
-    6,
-    2,
-    0,
-    0,
-    0,
-    1,
-    6,
-    6,
-    2,
-    0,
-    0,
-    6,
-    5,
-    0,
-    0,
-    0,
-    0,
-    5,
-    5,
-    0,
-    0,
-    0,
-    0,
-    1,
-    0,
-    0,
-    0,
-    0,
-    0,
-    2,
-    0,
-    0,
-    0,
-    0,
-    0,
-    1,
-    2,
-    2,
-    0,
-    0,
-    0,
-    2,
-    1,
-    69,
-    70,
-    0,
-    0,
-    2,
-    6,
-    0,
-    0,
-    0,
-    0,
-    6,
-    6,
-    6,
-    0,
-    0,
-    0,
-    70,
-    6,
-    0,
-    0,
-    0,
-    0,
-    1,
-    6,
-    6,
-    0,
-    0,
-    0,
-    1,
-    6,
-    0,
-    0,
-    0,
-    0,
-    65,
-    0,
-    0,
-    0,
-    0,
-    0,
-    65,
-    0,
-    0,
-    0,
-    0,
-    0,
-    70,
-    0,
-    0,
-    0,
-    0,
-    0,
-    6,
-    37,
-    0,
-    0,
-    0,
-    0,
-    6,
-    38,
-    0,
-    0,
-    0,
-    0,
-    6,
-    1,
-    0,
-    0,
-    0,
-    0,
-    6,
-    6,
-    0,
-    0,
-    0,
-    0,
-    4,
-    0,
-    0,
-    0,
-    0,
-    0,
-    6,
-    1,
-    0,
-    0,
-    0,
-    0,
-    53,
-    69,
-    6,
-    0,
-    0,
-    0,
-    0,
-    0,
-    0,
-    0,
-    0,
-    0,
-    1,
-    2,
-    1,
-    40,
-    0,
-    0,
-    1,
-    0,
-    0,
-    0,
-    0,
-    0,
-    7,
-    0,
-    0,
-    0,
-    0,
-    0,
-    9,
-    0,
-    0,
-    0,
-    0,
-    0,
-    10,
-    0,
-    0,
-    0,
-    0,
-    0,
-    11,
-    0,
-    0,
-    0,
-    0,
-    0,
-    12,
-    0,
-    0,
-    0,
-    0,
-    0,
-    17,
-    0,
-    0,
-    0,
-    0,
-    0,
-    18,
-    0,
-    0,
-    0,
-    0,
-    0,
-    19,
-    0,
-    0,
-    0,
-    0,
-    0,
-    23,
-    0,
-    0,
-    0,
-    0,
-    0,
-    0,
-    0,
-    0,
-    0,
-    0,
-    0,
-    0,
-    0,
-    0,
-    0,
-    0,
-    0,
-    0,
-    0,
-    0,
-    0,
-    0,
-    0,
-    0,
-    0,
-    0,
-    0,
-    0,
-    0,
-    0,
-    0,
-    0,
-    0,
-    0,
-    0,
-    1,
-    2,
-    1,
-    54,
-    14,
-    0,
-    1,
-    2,
-    1,
-    54,
-    5,
-    0,
-    1,
-    2,
-    1,
-    5,
-    6,
-    0,
-    1,
-    2,
-    1,
-    54,
-    45,
-    0,
-    1,
-    1,
-    14,
-    0,
-    0,
-    0,
-    47,
-    0,
-    0,
-    0,
-    0,
-    0,
-    48,
-    0,
-    0,
-    0,
-    0,
-    0,
-    2,
-    21,
-    0,
-    0,
-    0,
-    0,
-    2,
-    5,
-    0,
-    0,
-    0,
-    0,
-    54,
-    5,
-    5,
-    58,
-    0,
-    0,
-    54,
-    5,
-    58,
-    0,
-    0,
-    0,
-    1,
-    2,
-    54,
-    5,
-    37,
-    58,
-    1,
-    2,
-    2,
-    20,
-    0,
-    0,
-    1,
-    54,
-    53,
-    69,
-    70,
-    0,
-    1,
-    5,
-    0,
-    0,
-    0,
-    0,
-    1,
-    37,
-    0,
-    0,
-    0,
-    0,
-    2,
-    4,
-    0,
-    0,
-    0,
-    0,
-    2,
-    6,
-    0,
-    0,
-    0,
-    0,
-    1,
-    6,
-    0,
-    0,
-    0,
-    0,
-    1,
-    0,
-    0,
-    0,
-    0,
-    0,
-    1,
-    2,
-    2,
-    20,
-    0,
-    0,
-    1,
-    5,
-    0,
-    0,
-    0,
-    0,
-    6,
-    0,
-    0,
-    0,
-    0,
-    0,
+// A row for each kind from 0 to 0x86: a byte for each field's place, the first field's the lowest.
+const ROWS: [u64; 135] = [
+    0, // 0x00, none
+    0, // 0x01 Text
+    0, // 0x02 List
+    0, // 0x03 Kept
+    0, // 0x04, none
+    0, // 0x05, none
+    0, // 0x06, none
+    0, // 0x07, none
+    0, // 0x08, none
+    0, // 0x09, none
+    0, // 0x0A, none
+    0, // 0x0B, none
+    0, // 0x0C, none
+    0, // 0x0D, none
+    0, // 0x0E, none
+    0, // 0x0F, none
+    0, // 0x10 Global
+    0, // 0x11 Crate
+    0, // 0x12 Self
+    0x0304, // 0x13 PMemberSelect(base, name)
+    0, // 0x14, none
+    0, // 0x15, none
+    0, // 0x16, none
+    0, // 0x17, none
+    0, // 0x18, none
+    0, // 0x19, none
+    0, // 0x1A, none
+    0, // 0x1B, none
+    0, // 0x1C, none
+    0, // 0x1D, none
+    0, // 0x1E, none
+    0, // 0x1F, none
+    0, // 0x20 U8
+    0, // 0x21 U16
+    0, // 0x22 U32
+    0, // 0x23 U64
+    0, // 0x24 U128
+    0, // 0x25 I8
+    0, // 0x26 I16
+    0, // 0x27 I32
+    0, // 0x28 I64
+    0, // 0x29 I128
+    0, // 0x2A USIZE
+    0, // 0x2B Bool
+    0x01, // 0x2C TIdentifier(name)
+    0x04, // 0x2D TypeFromPath(path)
+    0x2505, // 0x2E TypeApp(baseName, arguments)
+    0x05, // 0x2F Borrowed(underlying)
+    0x05, // 0x30 BorrowedMut(underlying)
+    0x05, // 0x31 ImplType(underlying)
+    0x05, // 0x32 DynType(underlying)
+    0x25, // 0x33 TupleType(arguments)
+    0x0525, // 0x34 FnType(arguments, returnType)
+    0x0505, // 0x35 IntersectionType(left, right)
+    0x4105, // 0x36 Array(underlying, size)
+    0x0505, // 0x37 TSynonym(display, base)
+    0x020205, // 0x38 TMetaData(display, copySemantics, overflow)
+    0, // 0x39, none
+    0, // 0x3A, none
+    0, // 0x3B, none
+    0, // 0x3C, none
+    0, // 0x3D, none
+    0, // 0x3E, none
+    0, // 0x3F, none
+    0x01, // 0x40 RawExpr(content)
+    0x05, // 0x41 ExprFromType(tpe)
+    0x01, // 0x42 Identifier(name)
+    0x3806, // 0x43 Match(matchee, cases)
+    0x0606, // 0x44 StmtExpr(stmt, rhs)
+    0x06, // 0x45 Block(underlying)
+    0x3906, // 0x46 StructBuild(underlying, assignments)
+    0x26, // 0x47 Tuple(arguments)
+    0x020601, // 0x48 UnaryOp(op1, underlying, format)
+    0x02060601, // 0x49 BinaryOp(op2, left, right, format2)
+    0x0506, // 0x4A TypeAscription(left, tpe)
+    0x0505, // 0x4B TraitCast(leftTpe, tpe)
+    0x01, // 0x4C LiteralInt(value)
+    0x02, // 0x4D LiteralBool(bvalue)
+    0x020201, // 0x4E LiteralString(value, binary, verbatim)
+    0x46450102, // 0x4F DeclareVar(declareType, name, optType, optRhs)
+    0x0602, // 0x50 Assign(names, rhs)
+    0x060606, // 0x51 IfExpr(cond, thn, els)
+    0x0646, // 0x52 Loop(optCond, underlying)
+    0x060601, // 0x53 For(name, range, body)
+    0x0601, // 0x54 Labelled(lbl, underlying)
+    0x41, // 0x55 Break(optLbl)
+    0x41, // 0x56 Continue(optLbl)
+    0x46, // 0x57 Return(optExpr)
+    0x2506, // 0x58 CallType(obj, typeArguments)
+    0x2606, // 0x59 Call(obj, arguments)
+    0x0106, // 0x5A Select(obj, name)
+    0x0606, // 0x5B SelectIndex(obj, range)
+    0x04, // 0x5C ExprFromPath(path)
+    0x0106, // 0x5D FunctionSelect(obj, name)
+    0x064535, // 0x5E Lambda(params, retType, body)
+    0, // 0x5F, none
+    0x28010201, // 0x60 Mod(docString, attributes, name, body)
+    0x01, // 0x61 ExternMod(name)
+    0x07, // 0x62 ModDecl(mod)
+    0x09, // 0x63 StructDecl(struct)
+    0x0A, // 0x64 TypeDecl(tpe)
+    0x0B, // 0x65 ConstDecl(c)
+    0x0C, // 0x66 EnumDecl(enum)
+    0x11, // 0x67 ImplDecl(impl)
+    0x12, // 0x68 TraitDecl(tr)
+    0x13, // 0x69 TopFnDecl(fn)
+    0x17, // 0x6A UseDecl(use)
+    0, // 0x6B, none
+    0, // 0x6C, none
+    0, // 0x6D, none
+    0, // 0x6E, none
+    0, // 0x6F, none
+    0x0E36010201, // 0x70 Struct(docString, attributes, name, typeParams, fields)
+    0x0536010201, // 0x71 TypeSynonym(docString, attributes, name, typeParams, tpe)
+    0x0605010201, // 0x72 Constant(docString, attributes, name, tpe, value)
+    0x2D36010201, // 0x73 Enum(docString, attributes, name, typeParams, variants)
+    0x0E0101, // 0x74 EnumCase(docString, name, fields)
+    0x2F, // 0x75 NamedFields(fields)
+    0x30, // 0x76 NamelessFields(types)
+    0x1502, // 0x77 Field(visibility, formal)
+    0x0502, // 0x78 NamelessField(visibility, tpe)
+    0x3A050536, // 0x79 ImplFor(typeParams, tpe, forType, body)
+    0x3A0536, // 0x7A Impl(typeParams, tpe, body)
+    0x3A2505360201, // 0x7B Trait(docString, attributes, typeParams, tpe, parents, body)
+    0x14020201, // 0x7C TopFn(docString, attributes, visibility, fn)
+    0x4645353601, // 0x7D Fn(name, typeParams, formals, returnType, body)
+    0x0501, // 0x7E Formal(name, tpe)
+    0x2501, // 0x7F TypeParamDecl(name, constraints)
+    0x0402, // 0x80 Use(visibility, path)
+    0x0602, // 0x81 MatchCase(pattern, rhs)
+    0x0601, // 0x82 AssignIdentifier(identifier, rhs)
+    0x01, // 0x83 RawImplMember(content)
+    0x14020201, // 0x84 FnDecl(docString, attributes, pub, fun)
+    0x0501, // 0x85 TypeDeclMember(name, rhs)
+    0x06, // 0x86 ImplMemberMacro(expr)
 ];
 
 // The first and the last kind that may stand at each place of one record.
 const FIRST: [u8; 27] = [
-    0,
-    1,
-    3,
-    1,
-    16,
-    32,
-    64,
-    96,
-    98,
-    112,
-    113,
-    114,
-    115,
-    116,
-    117,
-    119,
-    120,
-    121,
-    123,
-    124,
-    125,
-    126,
-    127,
-    128,
-    129,
-    130,
-    131,
+    0, // 0x00 none
+    0x01, // 0x01 Text
+    0x03, // 0x02 Kept
+    0x01, // 0x03 the Text of a PMemberSelect
+    0x10, // 0x04 Path
+    0x20, // 0x05 Type
+    0x40, // 0x06 Expr
+    0x60, // 0x07 Mod or ExternMod
+    0x62, // 0x08 ModDecl
+    0x70, // 0x09 Struct
+    0x71, // 0x0A TypeSynonym
+    0x72, // 0x0B Constant
+    0x73, // 0x0C Enum
+    0x74, // 0x0D EnumCase
+    0x75, // 0x0E Fields
+    0x77, // 0x0F Field
+    0x78, // 0x10 NamelessField
+    0x79, // 0x11 Impl
+    0x7B, // 0x12 Trait
+    0x7C, // 0x13 TopFn
+    0x7D, // 0x14 Fn
+    0x7E, // 0x15 Formal
+    0x7F, // 0x16 TypeParamDecl
+    0x80, // 0x17 Use
+    0x81, // 0x18 MatchCase
+    0x82, // 0x19 AssignIdentifier
+    0x83, // 0x1A ImplMember
 ];
 
 const LAST: [u8; 27] = [
-    0,
-    1,
-    3,
-    1,
-    19,
-    56,
-    94,
-    97,
-    106,
-    112,
-    113,
-    114,
-    115,
-    116,
-    118,
-    119,
-    120,
-    122,
-    123,
-    124,
-    125,
-    126,
-    127,
-    128,
-    129,
-    130,
-    134,
+    0, // 0x00 none
+    0x01, // 0x01 Text
+    0x03, // 0x02 Kept
+    0x01, // 0x03 the Text of a PMemberSelect
+    0x13, // 0x04 Path
+    0x38, // 0x05 Type
+    0x5E, // 0x06 Expr
+    0x61, // 0x07 Mod or ExternMod
+    0x6A, // 0x08 ModDecl
+    0x70, // 0x09 Struct
+    0x71, // 0x0A TypeSynonym
+    0x72, // 0x0B Constant
+    0x73, // 0x0C Enum
+    0x74, // 0x0D EnumCase
+    0x76, // 0x0E Fields
+    0x77, // 0x0F Field
+    0x78, // 0x10 NamelessField
+    0x7A, // 0x11 Impl
+    0x7B, // 0x12 Trait
+    0x7C, // 0x13 TopFn
+    0x7D, // 0x14 Fn
+    0x7E, // 0x15 Formal
+    0x7F, // 0x16 TypeParamDecl
+    0x80, // 0x17 Use
+    0x81, // 0x18 MatchCase
+    0x82, // 0x19 AssignIdentifier
+    0x86, // 0x1A ImplMember
 ];
 
 // The rows, for a walk to make once and lend on: a constant that is read in place is written out anew each time.
-pub fn table() -> [u8; 810]
+pub fn table() -> [u64; 135]
     ensures { λ r. ⌜ r ≡ Codes·table ⌝ }
 {
     ROWS
 }
 
 // The place of field j of a record of kind k, by a table of rows; 0 where it has no such field.
-pub fn place_at(t: &[u8], k: usize, j: usize) -> usize
+pub fn place_at(t: &[u64], k: usize, j: usize) -> usize
     ensures { λ r. ⌜ r ≡ codeFrom (now (t .entry)) k j ⌝ }
 {
-    if k < 135 {
-        if j < 6 {
-            let i = k * 6 + j;
-            if i < t.len() {
-                return wire::wide(t[i]);
-            }
+    if k < t.len() {
+        if j < 8 {
+            let below = 8 * j;
+            return ((t[k] >> below) % 256) as usize;
         }
     }
     0

@@ -28,10 +28,12 @@ module _ (card root : Bytes) (words : ℕ) where
   unfolding admitted
   card-long h g = rw (le-ltb words 2048 h, lt-ltb 32768 (length card) g)
 
-  pub root-bad : (b : Bool) → 2048 ≤ words → length card ≤ 32768 → b ≡ goodRoot upstream root → not b ≡ true → Refused BadRoot ≡ admitted upstream card root words
+  pub root-bad : (b : Bool) → 2048 ≤ words → length card ≤ 32768 → b ≡ goodRoot upstream root → not b ≡ true
+      → Refused BadRoot ≡ admitted upstream card root words
   unfolding admitted
   root-bad b h g e n = rw (le-ltb words 2048 h, le-ltb 32768 (length card) g, ap not (sym e) ∙ n)
 
-  pub card-read : (b : Bool) (v : Verdict) → 2048 ≤ words → length card ≤ 32768 → b ≡ goodRoot upstream root → not b ≡ false → v ≡ reading 48 mod′ card → v ≡ admitted upstream card root words
+  pub card-read : (b : Bool) (v : Verdict) → 2048 ≤ words → length card ≤ 32768 → b ≡ goodRoot upstream root → not b ≡ false
+      → v ≡ reading 48 mod′ card → v ≡ admitted upstream card root words
   unfolding admitted
   card-read b v h g e n r = rw (le-ltb words 2048 h, le-ltb 32768 (length card) g, ap not (sym e) ∙ n) r

@@ -1,7 +1,8 @@
 -- 01, "The console's answers": the number of each answer, and its length or place. Assumes nothing: these are definitions.
 use Prim.Native.Nat.{ℕ}
 use Rattle.answers.specs.declared.Answer.{Answer}
-use Rattle.answers.specs.declared.Answer.the-variants.{Shortened, ShortWork, LongCard, BadRoot, ShortRecord, WrongKind, TooDeep, LeftOver, FullTable, NoSpace}
+use Rattle.answers.specs.declared.Answer.the-variants.{Shortened, ShortWork, LongCard, BadRoot, ShortRecord, WrongKind, TooDeep}
+use Rattle.answers.specs.declared.Answer.the-variants.{LeftOver, FullTable, NoSpace}
 
 abbrev pub number : Answer → ℕ
 number (Shortened length) = 0

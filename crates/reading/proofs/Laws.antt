@@ -25,7 +25,8 @@ use Rattle.reading.proofs.Held.{held}
 use Rattle.reading.specs.Reads.{reads, readsRecord, after, firstOf, placeIn, mayEnd}
 
 -- one less deep and one less allowed is the same
-shifted : (x : Next) (limit depth at : ℕ) (s : Bytes) (content rest : Content → Verdict) → step x (suc limit) (suc depth) at s content rest ≡ step x limit depth at s content rest
+shifted : (x : Next) (limit depth at : ℕ) (s : Bytes) (content rest : Content → Verdict)
+    → step x (suc limit) (suc depth) at s content rest ≡ step x limit depth at s content rest
 shifted done limit depth at s content rest = refl
 shifted leftOver limit depth at s content rest = refl
 shifted (record-at p more) limit depth at s content rest = rw (leb·suc-suc (suc limit) depth)
@@ -36,7 +37,9 @@ read-shift limit zero c depth at s = refl
 read-shift limit (suc n) c depth at s =
     shifted (next c s) limit depth at s _ _
     ∙ step-same (next c s) limit depth at s _ _ _ _
-    (λ l inner. ap (λ d. read (suc limit) n inner d (at + 6) (contentOf s)) (let e : suc depth + 1 ≡ suc (depth + 1) = omega arith in e) ∙ read-shift limit n inner (depth + 1) (at + 6) (contentOf s))
+    (λ l inner.
+    ap (λ d. read (suc limit) n inner d (at + 6) (contentOf s)) (let e : suc depth + 1 ≡ suc (depth + 1) = omega arith in e)
+    ∙ read-shift limit n inner (depth + 1) (at + 6) (contentOf s))
     (λ l more. read-shift limit n more depth (at + (4 + lengthOf s)) (restOf s))
 
 -- reading with one more than there are bytes, or with more
@@ -44,26 +47,33 @@ pub reads-enough : (left n : ℕ) (c : Content) (at : ℕ) (s : Bytes) → lengt
 unfolding reads
 reads-enough left n c at s h = read-same left n (suc (length s)) c 1 at s h (omega arith)
 
-refused : (a b : Bool) (x y z : Answer) (v : Verdict) → cond a (Refused x) (cond b (Refused y) (Refused z)) ≡ andThen (cond a (Refused x) (cond b (Refused y) (Refused z))) v
+refused : (a b : Bool) (x y z : Answer) (v : Verdict)
+    → cond a (Refused x) (cond b (Refused y) (Refused z)) ≡ andThen (cond a (Refused x) (cond b (Refused y) (Refused z))) v
 refused true b x y z v = refl
 refused false true x y z v = refl
 refused false false x y z v = refl
 
-passed : (a b : Bool) (x y : Answer) (v w v′ w′ : Verdict) → (a ≡ false → v ≡ v′) → (a ≡ false → w ≡ w′) → cond a (Refused x) (cond b (Refused y) (andThen v w)) ≡ andThen (cond a (Refused x) (cond b (Refused y) v′)) w′
+passed : (a b : Bool) (x y : Answer) (v w v′ w′ : Verdict) → (a ≡ false → v ≡ v′) → (a ≡ false → w ≡ w′)
+    → cond a (Refused x) (cond b (Refused y) (andThen v w)) ≡ andThen (cond a (Refused x) (cond b (Refused y) v′)) w′
 passed true b x y v w v′ w′ f g = refl
 passed false true x y v w v′ w′ f g = refl
 passed false false x y v w v′ w′ f g = ap₂ andThen (f refl) (g refl)
 
 -- a record, and then what follows it
 at-record : (left : ℕ) (at : ℕ) (s : Bytes) (p : Place) (more : Content) →
-    step (record-at p more) left 1 at s (λ inner. read left (length s) inner 2 (at + 6) (contentOf s)) (λ more. read left (length s) more 1 (at + (4 + lengthOf s)) (restOf s))
+    step (record-at p more) left 1 at s (λ inner. read left (length s) inner 2 (at + 6) (contentOf s))
+    (λ more. read left (length s) more 1 (at + (4 + lengthOf s)) (restOf s))
     ≡ andThen (readsRecord left p at s) (reads left more (at + (4 + lengthOf s)) (restOf s))
 unfolding readsRecord
-at-record zero at s p more = refused (short s) (not (stands p (kindOf s))) (ShortRecord at) (WrongKind at) (TooDeep at) (reads 0 more (at + (4 + lengthOf s)) (restOf s))
+at-record zero at s p more =
+    refused (short s) (not (stands p (kindOf s))) (ShortRecord at) (WrongKind at) (TooDeep at) (reads 0 more (at + (4 + lengthOf s)) (restOf s))
 at-record (suc left) at s p more =
     rw (le-ltb (suc left) 1 (omega arith))
     (passed (short s) (not (stands p (kindOf s))) (ShortRecord at) (WrongKind at) _ _ _ _
-    (λ l. let e = rest-length s l in read-shift left (length s) (contentAt p (kindOf s)) 1 (at + 6) (contentOf s) ∙ reads-enough left (length s) (contentAt p (kindOf s)) (at + 6) (contentOf s) (omega arith))
+    (λ l.
+    let e = rest-length s l in
+    read-shift left (length s) (contentAt p (kindOf s)) 1 (at + 6) (contentOf s)
+    ∙ reads-enough left (length s) (contentAt p (kindOf s)) (at + 6) (contentOf s) (omega arith))
     (λ l. let e = rest-length s l in reads-enough (suc left) (length s) more (at + (4 + lengthOf s)) (restOf s) (omega arith)))
 
 pub reads-record : (left : ℕ) (c : Content) (at : ℕ) (s : Bytes) (p : Place) (more : Content) → next c s ≡ record-at p more →
@@ -142,11 +152,14 @@ after-none (any p) = refl
 after-none (atMostOne p) = refl
 
 pub turn-start : (left : ℕ) (c : Content) (at : ℕ) (s : Bytes) → Turn left c at s 0 0
-turn-start left c at s = record { inside = omega arith; fewer = omega arith; same = ap₂ (λ (d : Content) (x : ℕ). reads left d x s) (sym (after-none c)) (let e : at ≡ at + 0 = omega arith in e) }
+turn-start left c at s =
+    let e : at ≡ at + 0 = omega arith in
+    record { inside = omega arith; fewer = omega arith; same = ap₂ (λ (d : Content) (x : ℕ). reads left d x s) (sym (after-none c)) e }
 
 -- a sound record on
-pub turn-on : (left : ℕ) (c : Content) (at : ℕ) (s : Bytes) (i j : ℕ) (q : Place) → Turn left c at s i j → i < length s → placeIn c j ≡ some q → readsRecord left q (at + i) (drop i s) ≡ Sound →
-    Turn left c at s (i + (4 + lengthOf (drop i s))) (j + 1)
+pub turn-on : (left : ℕ) (c : Content) (at : ℕ) (s : Bytes) (i j : ℕ) (q : Place) → Turn left c at s i j → i < length s → placeIn c j ≡ some q
+    → readsRecord left q (at + i) (drop i s) ≡ Sound
+    → Turn left c at s (i + (4 + lengthOf (drop i s))) (j + 1)
 turn-on left c at s i j q t h e v =
     let l : short (drop i s) ≡ false = held left q (at + i) (drop i s) v .long in
     let r = rest-length (drop i s) l in
@@ -158,24 +171,28 @@ turn-on left c at s i j q t h e v =
       same =
           t .same ∙ reads-record left (after c j) (at + i) (drop i s) q (after c (suc j)) (next-more c j (drop i s) q (omega arith) e)
           ∙ ap (λ (w : Verdict). andThen w (reads left (after c (suc j)) (at + i + (4 + lengthOf (drop i s))) (restOf (drop i s)))) v
-          ∙ ap₂ (λ (x y : ℕ). reads left (after c x) y (restOf (drop i s))) (let g : suc j ≡ j + 1 = omega arith in g) (let g : at + i + (4 + lengthOf (drop i s)) ≡ at + (i + (4 + lengthOf (drop i s))) = omega arith in g)
+          ∙ ap₂ (λ (x y : ℕ). reads left (after c x) y (restOf (drop i s))) (let g : suc j ≡ j + 1 = omega arith in g)
+          (let g : at + i + (4 + lengthOf (drop i s)) ≡ at + (i + (4 + lengthOf (drop i s))) = omega arith in g)
           ∙ ap (reads left (after c (j + 1)) (at + (i + (4 + lengthOf (drop i s))))) (drop-drop (4 + lengthOf (drop i s)) i s);
     }
 
 -- a refused record ends it
-pub turn-refused : (left : ℕ) (c : Content) (at : ℕ) (s : Bytes) (i j : ℕ) (q : Place) (a : Answer) → Turn left c at s i j → i < length s → placeIn c j ≡ some q → readsRecord left q (at + i) (drop i s) ≡ Refused a →
-    Refused a ≡ reads left c at s
+pub turn-refused : (left : ℕ) (c : Content) (at : ℕ) (s : Bytes) (i j : ℕ) (q : Place) (a : Answer) → Turn left c at s i j → i < length s
+    → placeIn c j ≡ some q → readsRecord left q (at + i) (drop i s) ≡ Refused a
+    → Refused a ≡ reads left c at s
 turn-refused left c at s i j q a t h e v =
     let d : length (drop i s) ≡ length s - i = length-drop i s in
     sym (t .same ∙ reads-record left (after c j) (at + i) (drop i s) q (after c (suc j)) (next-more c j (drop i s) q (omega arith) e)
     ∙ ap (λ (w : Verdict). andThen w (reads left (after c (suc j)) (at + i + (4 + lengthOf (drop i s))) (restOf (drop i s)))) v)
 
-pub turn-left : (left : ℕ) (c : Content) (at : ℕ) (s : Bytes) (i j : ℕ) → Turn left c at s i j → ofBytes c ≡ false → i < length s → placeIn c j ≡ none → Refused (LeftOver (at + i)) ≡ reads left c at s
+pub turn-left : (left : ℕ) (c : Content) (at : ℕ) (s : Bytes) (i j : ℕ) → Turn left c at s i j → ofBytes c ≡ false → i < length s → placeIn c j ≡ none
+    → Refused (LeftOver (at + i)) ≡ reads left c at s
 turn-left left c at s i j t o h e =
     let d : length (drop i s) ≡ length s - i = length-drop i s in
     sym (t .same ∙ reads-leftOver left (after c j) (at + i) (drop i s) (next-left c j (drop i s) o (omega arith) e))
 
-pub turn-end : (left : ℕ) (c : Content) (at : ℕ) (s : Bytes) (i j : ℕ) → Turn left c at s i j → length s ≤ i → cond (mayEnd c j) Sound (Refused (ShortRecord (at + i))) ≡ reads left c at s
+pub turn-end : (left : ℕ) (c : Content) (at : ℕ) (s : Bytes) (i j : ℕ) → Turn left c at s i j → length s ≤ i
+    → cond (mayEnd c j) Sound (Refused (ShortRecord (at + i))) ≡ reads left c at s
 turn-end left c at s i j t h = sym (t .same ∙ ap (reads left (after c j) (at + i)) (drop-of-length-le s {i = i} h) ∙ reads-end left c j (at + i))
 
 -- the whole of a card's or a root's bytes: one record at a place, and nothing after it

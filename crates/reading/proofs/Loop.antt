@@ -39,13 +39,15 @@ loop-bytes s c k left at b e f = go (contentAt (placeOf c) k) (sym e ∙ f)
     go (any p) o = absurd (false≢true o)
     go (atMostOne p) o = absurd (false≢true o)
 
-pub loop-left : (s : Bytes) (c k left at i j p : ℕ) → Valid c → Loop s c k left at i j → i < length s → p ≡ codeIn c k j → p ≡ 0 → Refused (LeftOver (at + i)) ≡ reads left (contentAt (placeOf c) k) at s
+pub loop-left : (s : Bytes) (c k left at i j p : ℕ) → Valid c → Loop s c k left at i j → i < length s → p ≡ codeIn c k j → p ≡ 0
+    → Refused (LeftOver (at + i)) ≡ reads left (contentAt (placeOf c) k) at s
 loop-left s c k left at i j p v l h e z = turn-left left (contentAt (placeOf c) k) at s i j (l .1) (l .0) h (place-none c k j v (l .0) (sym e ∙ z))
 
 pub loop-valid : (c k j p : ℕ) → Valid c → p ≡ codeIn c k j → Valid p
 loop-valid c k j p v e = subst Valid (sym e) (place-valid c k j v)
 
-module _ (s : Bytes) (c k left at i j p : ℕ) (w : Verdict) (v : Valid c) (l : Loop s c k left at i j) (h : i < length s) (e : p ≡ codeIn c k j) (z : p ≡ 0 → ⊥) (r : w ≡ readsRecord left (placeOf p) (at + i) (take (length s - i) (drop i s))) where
+module _ (s : Bytes) (c k left at i j p : ℕ) (w : Verdict) (v : Valid c) (l : Loop s c k left at i j) (h : i < length s) (e : p ≡ codeIn c k j)
+    (z : p ≡ 0 → ⊥) (r : w ≡ readsRecord left (placeOf p) (at + i) (take (length s - i) (drop i s))) where
   place : placeIn (contentAt (placeOf c) k) j ≡ some (placeOf (codeIn c k j))
   place = place-some c k j v (l .0) (λ y. z (e ∙ y))
 
@@ -64,14 +66,18 @@ module _ (s : Bytes) (c k left at i j p : ℕ) (w : Verdict) (v : Valid c) (l : 
 
 -- the end of the bytes
 pub loop-list : (s : Bytes) (c k left at i j : ℕ) → Valid c → Loop s c k left at i j → length s ≤ i → 32 ≤ c → Sound ≡ reads left (contentAt (placeOf c) k) at s
-loop-list s c k left at i j v l h g = sym (ap (λ (b : Bool). cond b Sound (Refused (ShortRecord (at + i)))) (end-list c k j v g)) ∙ turn-end left (contentAt (placeOf c) k) at s i j (l .1) h
+loop-list s c k left at i j v l h g =
+    sym (ap (λ (b : Bool). cond b Sound (Refused (ShortRecord (at + i)))) (end-list c k j v g))
+    ∙ turn-end left (contentAt (placeOf c) k) at s i j (l .1) h
 
-pub loop-full : (s : Bytes) (c k left at i j p : ℕ) → Loop s c k left at i j → length s ≤ i → c < 32 → p ≡ codeAt k j → p ≡ 0 → Sound ≡ reads left (contentAt (placeOf c) k) at s
+pub loop-full : (s : Bytes) (c k left at i j p : ℕ) → Loop s c k left at i j → length s ≤ i → c < 32 → p ≡ codeAt k j → p ≡ 0
+    → Sound ≡ reads left (contentAt (placeOf c) k) at s
 loop-full s c k left at i j p l h g e z =
     sym (ap (λ (b : Bool). cond b Sound (Refused (ShortRecord (at + i)))) (end-row c k j g (l .0) ∙ ap (λ (n : ℕ). eqb n 0) (sym e ∙ z)))
     ∙ turn-end left (contentAt (placeOf c) k) at s i j (l .1) h
 
-pub loop-short : (s : Bytes) (c k left at i j p : ℕ) → Loop s c k left at i j → length s ≤ i → c < 32 → p ≡ codeAt k j → (p ≡ 0 → ⊥) → Refused (ShortRecord (at + i)) ≡ reads left (contentAt (placeOf c) k) at s
+pub loop-short : (s : Bytes) (c k left at i j p : ℕ) → Loop s c k left at i j → length s ≤ i → c < 32 → p ≡ codeAt k j → (p ≡ 0 → ⊥)
+    → Refused (ShortRecord (at + i)) ≡ reads left (contentAt (placeOf c) k) at s
 loop-short s c k left at i j p l h g e z =
     sym (ap (λ (b : Bool). cond b Sound (Refused (ShortRecord (at + i)))) (end-row c k j g (l .0) ∙ ne-eqb (codeAt k j) 0 (λ y. z (e ∙ y))))
     ∙ turn-end left (contentAt (placeOf c) k) at s i j (l .1) h
@@ -82,20 +88,26 @@ unfolding readsRecord
 record-short zero at p s b e y = rw (sym e ∙ y)
 record-short (suc left) at p s b e y = rw (sym e ∙ y)
 
-pub record-wrong : (left at k : ℕ) (p : Place) (s : Bytes) (b d : Bool) → b ≡ short s → b ≡ false → k ≡ kindOf s → d ≡ stands p k → not d ≡ true → Refused (WrongKind at) ≡ readsRecord left p at s
+pub record-wrong : (left at k : ℕ) (p : Place) (s : Bytes) (b d : Bool) → b ≡ short s → b ≡ false → k ≡ kindOf s → d ≡ stands p k → not d ≡ true
+    → Refused (WrongKind at) ≡ readsRecord left p at s
 unfolding readsRecord
 record-wrong zero at k p s b d e y f g x = rw (sym e ∙ y, ap not (sym (ap (stands p) f) ∙ sym g) ∙ x)
 record-wrong (suc left) at k p s b d e y f g x = rw (sym e ∙ y, ap not (sym (ap (stands p) f) ∙ sym g) ∙ x)
 
-pub record-deep : (left at k : ℕ) (p : Place) (s : Bytes) (b d : Bool) → b ≡ short s → b ≡ false → k ≡ kindOf s → d ≡ stands p k → not d ≡ false → left ≡ 0 → Refused (TooDeep at) ≡ readsRecord left p at s
+pub record-deep : (left at k : ℕ) (p : Place) (s : Bytes) (b d : Bool) → b ≡ short s → b ≡ false → k ≡ kindOf s → d ≡ stands p k → not d ≡ false
+    → left ≡ 0 → Refused (TooDeep at) ≡ readsRecord left p at s
 unfolding readsRecord
 record-deep zero at k p s b d e y f g x z = rw (sym e ∙ y, ap not (sym (ap (stands p) f) ∙ sym g) ∙ x)
 record-deep (suc left) at k p s b d e y f g x z = absurd (omega arith)
 
-pub record-inside : (left at k : ℕ) (p : Place) (s u : Bytes) (b d : Bool) (w : Verdict) → b ≡ short s → b ≡ false → k ≡ kindOf s → d ≡ stands p k → not d ≡ false → (left ≡ 0 → ⊥) → u ≡ contentOf s → w ≡ reads (left - 1) (contentAt p k) (at + 6) u → w ≡ readsRecord left p at s
+pub record-inside : (left at k : ℕ) (p : Place) (s u : Bytes) (b d : Bool) (w : Verdict) → b ≡ short s → b ≡ false → k ≡ kindOf s → d ≡ stands p k
+    → not d ≡ false → (left ≡ 0 → ⊥) → u ≡ contentOf s → w ≡ reads (left - 1) (contentAt p k) (at + 6) u → w ≡ readsRecord left p at s
 unfolding readsRecord
 record-inside zero at k p s u b d w e y f g x z c r = absurd (z refl)
-record-inside (suc left) at k p s u b d w e y f g x z c r = rw (sym e ∙ y, ap not (sym (ap (stands p) f) ∙ sym g) ∙ x) (r ∙ ap (λ (m : ℕ). reads m (contentAt p k) (at + 6) u) (let o : suc left - 1 ≡ left = omega arith in o) ∙ ap₂ (λ (n : ℕ) (t : Bytes). reads left (contentAt p n) (at + 6) t) f c)
+record-inside (suc left) at k p s u b d w e y f g x z c r =
+    rw (sym e ∙ y, ap not (sym (ap (stands p) f) ∙ sym g) ∙ x)
+    (r ∙ ap (λ (m : ℕ). reads m (contentAt p k) (at + 6) u) (let o : suc left - 1 ≡ left = omega arith in o)
+    ∙ ap₂ (λ (n : ℕ) (t : Bytes). reads left (contentAt p n) (at + 6) t) f c)
 
 -- a content is six bytes shorter than its record, or more
 pub content-in : (s u : Bytes) (b : Bool) → b ≡ short s → b ≡ false → u ≡ contentOf s → 6 + length u ≤ length s

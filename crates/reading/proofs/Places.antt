@@ -54,8 +54,11 @@ row-content : (c k : ℕ) → c < 32 → ofBytes (contentAt (placeOf c) k) ≡ f
 row-content c k h o =
     elim (ℕ-discrete c 3) [
       | yes e ↦ absurd (false≢true (sym o ∙ ap ofBytes (subst (λ (x : ℕ). contentAt (placeOf x) k ≡ bytes) (sym e) (content-name k))))
-      | no e ↦ (by-test (isLeaf k) (λ l. absurd (false≢true (sym o ∙ ap ofBytes (content-one c k h e ∙ ap (λ (t : Bool). cond t bytes (these (rowOf k))) l)))) (λ l. content-one c k h e ∙ ap (λ (t : Bool). cond t bytes (these (rowOf k))) l))
+      | no e ↦ by-test (isLeaf k) (λ l. absurd (false≢true (sym o ∙ ap ofBytes (by-leaf e true l)))) (λ l. by-leaf e false l)
     ]
+  where
+    by-leaf : (c ≡ 3 → ⊥) → (b : Bool) → isLeaf k ≡ b → contentAt (placeOf c) k ≡ cond b bytes (these (rowOf k))
+    by-leaf e b l = content-one c k h e ∙ ap (λ (t : Bool). cond t bytes (these (rowOf k))) l
 
 -- 0 where no more may come, and else the number of the place
 pub place-none : (c k j : ℕ) → Valid c → ofBytes (contentAt (placeOf c) k) ≡ false → codeIn c k j ≡ 0 → placeIn (contentAt (placeOf c) k) j ≡ none
@@ -69,7 +72,8 @@ place-none c k j v o e =
     go zero e h = absurd (v .some-option (let x : c - 64 ≡ 0 = sym (code-first c k h) ∙ e in omega arith))
     go (suc j) e h = refl
 
-pub place-some : (c k j : ℕ) → Valid c → ofBytes (contentAt (placeOf c) k) ≡ false → (codeIn c k j ≡ 0 → ⊥) → placeIn (contentAt (placeOf c) k) j ≡ some (placeOf (codeIn c k j))
+pub place-some : (c k j : ℕ) → Valid c → ofBytes (contentAt (placeOf c) k) ≡ false → (codeIn c k j ≡ 0 → ⊥)
+    → placeIn (contentAt (placeOf c) k) j ≡ some (placeOf (codeIn c k j))
 place-some c k j v o e =
     ranges c (v .small)
     (λ h. rw (row-content c k h o, code-one c k j h, code-some k j (λ z. e (code-one c k j h ∙ z))))
@@ -87,7 +91,11 @@ small-valid c h = record { small = omega arith; some-seq = λ e. omega arith; so
 pub place-valid : (c k j : ℕ) → Valid c → Valid (codeIn c k j)
 place-valid c k j v =
     ranges c (v .small)
-    (λ h. rw (code-one c k j h) (record { small = code-below k j; some-seq = λ e. (let x = code-seq k j (omega arith) (omega arith) .0 in omega arith); some-option = λ e. (let x = code-option k j (omega arith) .0 in omega arith) }))
+    (λ h. rw (code-one c k j h) (record {
+      small = code-below k j;
+      some-seq = λ e. (let x = code-seq k j (omega arith) (omega arith) .0 in omega arith);
+      some-option = λ e. (let x = code-option k j (omega arith) .0 in omega arith);
+    }))
     (λ h g. rw (code-in-seq c k j h g) (small-valid (c - 32) (omega arith)))
     (λ h. go j h)
   where

@@ -19,8 +19,10 @@ pub record Walk (left : ℕ) (c : Content) (j at : ℕ) (s : Bytes) (q : Place) 
   pub rest-sound : reads left (after c (suc j)) (at + (4 + lengthOf s)) (restOf s) ≡ Sound
   pub is-tree : recordsOf s ≡ recordOf s ▸ recordsOf (restOf s)
 
-pub walk : (left : ℕ) (c : Content) (j at : ℕ) (s : Bytes) (q : Place) → reads left (after c j) at s ≡ Sound → 0 < length s → placeIn c j ≡ some q → Walk left c j at s q
+pub walk : (left : ℕ) (c : Content) (j at : ℕ) (s : Bytes) (q : Place) → reads left (after c j) at s ≡ Sound → 0 < length s → placeIn c j ≡ some q
+    → Walk left c j at s q
 walk left c j at s q h l e =
-    let v = andThen-sound (readsRecord left q at s) (reads left (after c (suc j)) (at + (4 + lengthOf s)) (restOf s)) (sym (reads-record left (after c j) at s q (after c (suc j)) (next-more c j s q l e)) ∙ h) in
+    let v = andThen-sound (readsRecord left q at s) (reads left (after c (suc j)) (at + (4 + lengthOf s)) (restOf s))
+    (sym (reads-record left (after c j) at s q (after c (suc j)) (next-more c j s q l e)) ∙ h) in
     let f : Held left q at s = held left q at s (v .0) in
     record { first = f; rest-sound = v .1; is-tree = tree-first s (f .long) }

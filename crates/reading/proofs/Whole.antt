@@ -28,8 +28,10 @@ module _ (limit : ℕ) (p : Place) (s : Bytes) (v : Verdict) (r : v ≡ readsRec
   pub one-left : (n : ℕ) → v ≡ Sound → n ≡ lengthOf s → 4 + n < length s → Refused (LeftOver (4 + n)) ≡ reading limit p s
   one-left n e f h =
       let d : length (restOf s) ≡ length s - (4 + lengthOf s) = length-drop (4 + lengthOf s) s in
-      ap (λ (m : ℕ). Refused (LeftOver (4 + m))) f ∙ sym (then-rest Sound e ∙ reads-leftOver limit (these []) (4 + lengthOf s) (restOf s) (next-left (these []) 0 (restOf s) refl (omega arith) refl))
+      ap (λ (m : ℕ). Refused (LeftOver (4 + m))) f
+      ∙ sym (then-rest Sound e ∙ reads-leftOver limit (these []) (4 + lengthOf s) (restOf s) (next-left (these []) 0 (restOf s) refl (omega arith) refl))
 
   pub one-whole : (n : ℕ) → v ≡ Sound → n ≡ lengthOf s → length s ≤ 4 + n → Sound ≡ reading limit p s
   one-whole n e f h =
-      sym (then-rest Sound e ∙ ap (reads limit (these []) (4 + lengthOf s)) (drop-of-length-le s {i = 4 + lengthOf s} (omega arith)) ∙ reads-done limit (these []) (4 + lengthOf s) [] refl)
+      sym (then-rest Sound e ∙ ap (reads limit (these []) (4 + lengthOf s)) (drop-of-length-le s {i = 4 + lengthOf s} (omega arith))
+      ∙ reads-done limit (these []) (4 + lengthOf s) [] refl)

@@ -64,7 +64,8 @@ by-kinds P from n low h (node k c) f =
     by-row (rowOf k) (λ c. P (node k c)) (in-run (Kinds P) from n h k (f .0)) c (rw l at (f .1))
 
 -- a List, as a seq and as an Option, if it holds for each record in it
-pub by-seq : (P : Record → Type 0) (Q : Records → Type 0) (p : Place) → ((r : Record) → Fits r p → P r) → Q nil → ((r : Record) (c : Records) → P r → Q c → Q (r ▸ c)) → (c : Records) → FitsAll c (any p) → Q c
+pub by-seq : (P : Record → Type 0) (Q : Records → Type 0) (p : Place) → ((r : Record) → Fits r p → P r) → Q nil
+    → ((r : Record) (c : Records) → P r → Q c → Q (r ▸ c)) → (c : Records) → FitsAll c (any p) → Q c
 unfolding FitsAll
 by-seq P Q p each none more nil f = none
 by-seq P Q p each none more (r ▸ c) f = more r c (each r (f .0)) (by-seq P Q p each none more c (f .1))
@@ -88,7 +89,8 @@ by-kind {X} from n (leaf k b) h f = in-run (λ j. Fits (leaf k b) (one j) → X)
 by-kind {X} from n (node k c) h f = in-run (λ j. Fits (node k c) (one j) → X) from n h k (f .0) (rw (le-leb k k (le-refl k)), f .1)
 
 -- at a place for several kinds, of a record whose kind is known
-pub by-is : (P : Record → Type 0) (p : Place) (k : ℕ) (ps : List Place) → contentAt p k ≡ these ps → Rowed ps (λ c. P (node k c)) → (r : Record) → Fits r p → is k r ≡ true → P r
+pub by-is : (P : Record → Type 0) (p : Place) (k : ℕ) (ps : List Place) → contentAt p k ≡ these ps → Rowed ps (λ c. P (node k c)) → (r : Record)
+    → Fits r p → is k r ≡ true → P r
 by-is P p k ps same h r f e =
     let n : NodeAt r k (these ps) = node-at r p k (these ps) e same (these-no-bytes ps) f in
     subst P (sym (n .is-node)) (by-row ps (λ c. P (node k c)) h (children r) (n .fits))

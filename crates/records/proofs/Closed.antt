@@ -1,4 +1,5 @@
--- A set of kinds that is closed under the rows holds every kind in a tree that fits a place of that set: one computed test over the table, one law. Assumes nothing.
+-- A set of kinds that is closed under the rows holds every kind in a tree that fits a place of that set: one computed test over the table, one law.
+-- Assumes nothing.
 use mathlib.Core.Path.{_≡_, refl, sym, subst}
 use mathlib.Core.List.{List, [], _∷_}
 use mathlib.Core.Bool.{Bool, true, false, not, _&&_, _||_, cond, false≢true}
@@ -66,7 +67,8 @@ module _ (q : ℕ → Bool) where
       here true u g = g
       here false u g = absurd (false≢true u)
 
-      go : (t : Bool) → eqb k (r .kind) ≡ t → not (q (r .kind)) || holdsAtAll (r .places) ≡ true → holdsAtAll (rowIn rs k) ≡ true → holdsAtAll (cond t (r .places) (rowIn rs k)) ≡ true
+      go : (t : Bool) → eqb k (r .kind) ≡ t → not (q (r .kind)) || holdsAtAll (r .places) ≡ true → holdsAtAll (rowIn rs k) ≡ true
+          → holdsAtAll (cond t (r .places) (rowIn rs k)) ≡ true
       go true u g others = here (q (r .kind)) (subst (λ (x : ℕ). q x ≡ true) (eqb-true k (r .kind) u) e) g
       go false u g others = others
 

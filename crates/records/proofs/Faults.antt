@@ -74,8 +74,15 @@ unfolding read
 read-within limit zero c depth at s = sound-within (at + length s)
 read-within limit (suc n) c depth at s =
     step-within (at + length s) (next c s) limit depth at s _ _ (omega arith)
-    (λ l inner. let e = rest-length s l in within-more (at + 6 + length (contentOf s)) (at + length s) _ (omega arith) (read-within limit n inner (depth + 1) (at + 6) (contentOf s)))
-    (λ l more. let e = rest-length s l in let k = content-length s l in within-more (at + (4 + lengthOf s) + length (restOf s)) (at + length s) _ (omega arith) (read-within limit n more depth (at + (4 + lengthOf s)) (restOf s)))
+    (λ l inner.
+    let e = rest-length s l in
+    within-more (at + 6 + length (contentOf s)) (at + length s) _ (omega arith)
+    (read-within limit n inner (depth + 1) (at + 6) (contentOf s)))
+    (λ l more.
+    let e = rest-length s l in
+    let k = content-length s l in
+    within-more (at + (4 + lengthOf s) + length (restOf s)) (at + length s) _ (omega arith)
+    (read-within limit n more depth (at + (4 + lengthOf s)) (restOf s)))
 
 pub reading-within : (limit : ℕ) (p : Place) (s : Bytes) → Within (length s) (reading limit p s)
 unfolding reading

@@ -35,7 +35,8 @@ parse-same (suc n) (suc m) s h g =
           let c : length (contentOf s) ≡ min (lengthOf s - 2) (length (drop 6 s)) = length-take (lengthOf s - 2) (drop 6 s) in
           let r : length (restOf s) ≡ length s - (4 + lengthOf s) = length-drop (4 + lengthOf s) s in
           parse-step n s a
-          ∙ ap₂ (λ (x y : Records). cond (isLeaf (kindOf s)) (leaf (kindOf s) (contentOf s)) (node (kindOf s) x) ▸ y) (parse-same n m (contentOf s) (omega arith) (omega arith)) (parse-same n m (restOf s) (omega arith) (omega arith))
+          ∙ ap₂ (λ (x y : Records). cond (isLeaf (kindOf s)) (leaf (kindOf s) (contentOf s)) (node (kindOf s) x) ▸ y)
+          (parse-same n m (contentOf s) (omega arith) (omega arith)) (parse-same n m (restOf s) (omega arith) (omega arith))
           ∙ sym (parse-step m s a))
     ]
 

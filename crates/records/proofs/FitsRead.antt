@@ -44,7 +44,8 @@ fits-next (atMostOne p) [] r d l f = absurd (omega arith)
 fits-next (atMostOne p) (b ∷ s) r d l f = record { place = p; more = these []; is = refl; fits = f .0; others = f .1 }
 
 -- a record's bytes whose content reads sound and which what reads sound follows
-pub front-sound : (limit n depth at k : ℕ) (content rest : Bytes) (p : Place) (more : Content) → k < 65536 → 2 + length content < 2 ^ 32 → stands p k ≡ true → depth ≤ limit
+pub front-sound : (limit n depth at k : ℕ) (content rest : Bytes) (p : Place) (more : Content) → k < 65536 → 2 + length content < 2 ^ 32
+    → stands p k ≡ true → depth ≤ limit
     → ((at : ℕ) → read limit n (contentAt p k) (depth + 1) at content ≡ Sound) → ((at : ℕ) → read limit n more depth at rest ≡ Sound)
     → Next-sound limit n depth at (recordBytes k content ++ rest) p more
 front-sound limit n depth at k content rest p more small bounded st sh inner after = record {
@@ -64,7 +65,8 @@ some-bytes : (k : ℕ) (content rest : Bytes) → 0 < length (recordBytes k cont
 some-bytes k content rest = let a = length-append (recordBytes k content) rest in let b = record-length k content in omega arith
 
 -- records that fit a content, are canonical and at most limit deep read sound
-pub fits-read : (limit n : ℕ) (c : Content) (depth at : ℕ) (d : Records) → FitsAll d c → CanonicalAll d → depth + deepAll d ≤ limit + 1 → read limit n c depth at (encodeAll d) ≡ Sound
+pub fits-read : (limit n : ℕ) (c : Content) (depth at : ℕ) (d : Records) → FitsAll d c → CanonicalAll d → depth + deepAll d ≤ limit + 1
+    → read limit n c depth at (encodeAll d) ≡ Sound
 unfolding encode Fits Canonical deep
 fits-read limit zero c depth at d f g h = read-zero limit c depth at (encodeAll d)
 fits-read limit (suc n) c depth at nil f g h = read-done limit (suc n) c depth at [] (fits-done c f)

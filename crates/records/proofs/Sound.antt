@@ -7,11 +7,13 @@ use native.Mathlib.Omega.{arith}
 use lib.ListN.{length}
 use Rattle.answers.specs.declared.Verdict.the-variants.{Sound}
 use Rattle.wire.specs.Numbers.{Bytes, AreBytes}
-use Rattle.records.specs.Record.{Record, Records, leaf, node, nil, _▸_, isLeaf, encode, encodeAll, lengthOf, kindOf, contentOf, restOf, parse, nth, tree, deep, deepAll}
+use Rattle.records.specs.Record.{Record, Records, leaf, node, nil, _▸_, isLeaf, encode, encodeAll, lengthOf, kindOf, contentOf}
+use Rattle.records.specs.Record.{restOf, parse, nth, tree, deep, deepAll}
 use Rattle.records.specs.Kinds.{Place, stands, Content, bytes, these, any, atMostOne, contentAt}
 use Rattle.records.specs.Reading.{Next, done, leftOver, record-at, next, short, read, reading}
 use Rattle.records.proofs.Fits.{Fits, FitsAll}
-use Rattle.records.proofs.Tree.{long-enough, content-length, rest-length, content-bytes, rest-bytes, kind-small, length-small, record-split, parse-step, parse-nil, Canonical, CanonicalAll}
+use Rattle.records.proofs.Tree.{long-enough, content-length, rest-length, content-bytes, rest-bytes, kind-small, length-small}
+use Rattle.records.proofs.Tree.{record-split, parse-step, parse-nil, Canonical, CanonicalAll}
 use Rattle.records.proofs.Step.{ofBytes-true, content-leaf, next-done, next-more, Next-sound, read-stepped, read-leftOver}
 use Rattle.records.specs.Kinds.{ofBytes}
 
@@ -25,7 +27,8 @@ done-fits (any p) s r h = tt
 done-fits (atMostOne p) s r h = tt
 
 -- the record that comes next and those that follow it fit
-pub next-fits : (c : Content) (s : Bytes) (p : Place) (more : Content) (r : Record) (d : Records) → next c s ≡ record-at p more → Fits r p → FitsAll d more → FitsAll (r ▸ d) c
+pub next-fits : (c : Content) (s : Bytes) (p : Place) (more : Content) (r : Record) (d : Records) → next c s ≡ record-at p more → Fits r p
+    → FitsAll d more → FitsAll (r ▸ d) c
 unfolding FitsAll
 next-fits bytes s p more r d e f g = absurd (let z : _≡_ {A = ℕ} 0 1 = cc in omega arith)
 next-fits (these []) [] p more r d e f g = absurd (let z : _≡_ {A = ℕ} 0 1 = cc in omega arith)
@@ -77,7 +80,8 @@ is-first limit depth m p s h l st sh inner = go (isLeaf (kindOf s)) refl
         }
 
 -- a record that comes next, and those that follow it
-are-next : (limit depth : ℕ) (c : Content) (s : Bytes) (p : Place) (more : Content) (r : Record) (d : Records) → next c s ≡ record-at p more → Is limit depth p s r
+are-next : (limit depth : ℕ) (c : Content) (s : Bytes) (p : Place) (more : Content) (r : Record) (d : Records) → next c s ≡ record-at p more
+    → Is limit depth p s r
     → Are limit depth more (restOf s) d → Are limit depth c s (r ▸ d)
 unfolding encode Canonical deep
 are-next limit depth c s p more r d e f g = record {
@@ -97,7 +101,8 @@ abbrev Law : (limit n : ℕ) → Type 0
 Law limit n = (m : ℕ) (c : Content) (depth at : ℕ) (s : Bytes) → AreBytes s → length s < n → length s ≤ m → ofBytes c ≡ false → depth ≤ limit + 1
     → read limit n c depth at s ≡ Sound → Are limit depth c s (parse m s)
 
-read-record : (limit n : ℕ) → Law limit n → (m : ℕ) (c : Content) (depth at : ℕ) (s : Bytes) (p : Place) (more : Content) → AreBytes s → length s < suc n → length s ≤ m
+read-record : (limit n : ℕ) → Law limit n → (m : ℕ) (c : Content) (depth at : ℕ) (s : Bytes) (p : Place) (more : Content) → AreBytes s
+    → length s < suc n → length s ≤ m
     → next c s ≡ record-at p more → Next-sound limit n depth at s p more → Are limit depth c s (parse m s)
 read-record limit n law zero c depth at s p more h l k q e = let a = long-enough s (e .long) in absurd (omega arith)
 read-record limit n law (suc m) c depth at s p more h l k q e =
@@ -109,7 +114,8 @@ read-record limit n law (suc m) c depth at s p more h l k q e =
     (λ r. law m (contentAt p (kindOf s)) (depth + 1) (at + 6) (contentOf s) (content-bytes s h) (omega arith) (omega arith) r (omega arith) (e .content-sound)))
     (law m more depth (at + (4 + lengthOf s)) (restOf s) (rest-bytes s h) (omega arith) (omega arith) (next-more c s p more q) (omega arith) (e .rest-sound)))
 
-read-next : (limit n : ℕ) → Law limit n → (m : ℕ) (c : Content) (depth at : ℕ) (s : Bytes) → AreBytes s → length s < suc n → length s ≤ m → ofBytes c ≡ false → depth ≤ limit + 1
+read-next : (limit n : ℕ) → Law limit n → (m : ℕ) (c : Content) (depth at : ℕ) (s : Bytes) → AreBytes s → length s < suc n → length s ≤ m
+    → ofBytes c ≡ false → depth ≤ limit + 1
     → (x : Next) → next c s ≡ x → read limit (suc n) c depth at s ≡ Sound → Are limit depth c s (parse m s)
 read-next limit n law m c depth at s h l k r d done q e = rw (ap (parse m) (next-done c s r q) ∙ parse-nil m) (are-none limit depth c s r d q)
 read-next limit n law m c depth at s h l k r d leftOver q e = absurd (read-leftOver limit n c depth at s q e)
@@ -132,11 +138,18 @@ pub record ReadsAs (limit : ℕ) (p : Place) (s : Bytes) (r : Record) : Type 0 w
 are-one : (limit : ℕ) (p : Place) (s : Bytes) (d : Records) → Are limit 1 (these (p ∷ [])) s d → ReadsAs limit p s (nth 0 d)
 unfolding FitsAll nth encode Canonical deep
 are-one limit p s nil a = absurd (a .fits)
-are-one limit p s (r ▸ nil) a = record { encoded = sym (append-nil (encode r)) ∙ a .encoded; fits = a .fits .0; canonical = a .canonical .0; shallow = let b = a .shallow in omega arith }
+are-one limit p s (r ▸ nil) a =
+    record {
+      encoded = sym (append-nil (encode r)) ∙ a .encoded;
+      fits = a .fits .0;
+      canonical = a .canonical .0;
+      shallow = let b = a .shallow in omega arith;
+    }
 are-one limit p s (r ▸ (q ▸ d)) a = absurd (a .fits .1)
 
 -- bytes that read sound at a place are those of their tree
 pub sound-reads : (limit : ℕ) (p : Place) (s : Bytes) → AreBytes s → reading limit p s ≡ Sound → ReadsAs limit p s (tree s)
 unfolding reading tree
 sound-reads limit p s h e =
-    are-one limit p s (parse (length s) s) (read-are limit (suc (length s)) (length s) (these (p ∷ [])) 1 0 s h (omega arith) (omega arith) refl (omega arith) e)
+    are-one limit p s (parse (length s) s)
+    (read-are limit (suc (length s)) (length s) (these (p ∷ [])) 1 0 s h (omega arith) (omega arith) refl (omega arith) e)

@@ -39,7 +39,8 @@ passed false false c x y z v h = (refl, cc, cc, cc)
 pub step-stepped : (p : Place) (more : Content) (limit depth at : ℕ) (s : Bytes) (content rest : Content → Verdict)
     → step (record-at p more) limit depth at s content rest ≡ Sound → Stepped p more limit depth s content rest
 step-stepped p more limit depth at s content rest h =
-    let g = passed (short s) (stands p (kindOf s)) (ltb limit depth) (ShortRecord at) (WrongKind at) (TooDeep at) (andThen (content (contentAt p (kindOf s))) (rest more)) h in
+    let g = passed (short s) (stands p (kindOf s)) (ltb limit depth) (ShortRecord at) (WrongKind at) (TooDeep at)
+    (andThen (content (contentAt p (kindOf s))) (rest more)) h in
     let v = andThen-sound (content (contentAt p (kindOf s))) (rest more) (g .3) in
     record { long = g .0; standing = g .1; shallow = ltb-false limit depth (g .2); content-sound = v .0; rest-sound = v .1 }
 
@@ -112,7 +113,9 @@ read-leftOver limit n c depth at s e h = let g = rw e at h in let z : _≡_ {A =
 
 -- what a sound reading says of the record that comes next: its content and what follows it read sound
 abbrev pub Next-sound : (limit n depth at : ℕ) → Bytes → Place → Content → Type 0
-Next-sound limit n depth at s p more = Stepped p more limit depth s (λ inner. read limit n inner (depth + 1) (at + 6) (contentOf s)) (λ rest. read limit n rest depth (at + (4 + lengthOf s)) (restOf s))
+Next-sound limit n depth at s p more =
+    Stepped p more limit depth s (λ inner. read limit n inner (depth + 1) (at + 6) (contentOf s))
+    (λ rest. read limit n rest depth (at + (4 + lengthOf s)) (restOf s))
 
 module _ (limit n depth at : ℕ) (s : Bytes) (c : Content) (p : Place) (more : Content) (e : next c s ≡ record-at p more) where
   -- a sound reading says so of the record that comes next

@@ -11,7 +11,8 @@ use lib.Dec.{ltb}
 use borrow.Author.Tests.{ltb-false, le-ltb}
 use Rattle.wire.specs.Numbers.{Bytes, AreBytes, le, num}
 use Rattle.wire.proofs.Numbers.{le-length, le-num, num-le, num-below, take-bytes, drop-bytes, take-le, drop-le}
-use Rattle.records.specs.Record.{Record, Records, leaf, node, nil, _▸_, isLeaf, recordBytes, encode, encodeAll, lengthOf, kindOf, contentOf, restOf, parse, nth, tree}
+use Rattle.records.specs.Record.{Record, Records, leaf, node, nil, _▸_, isLeaf, recordBytes, encode, encodeAll, lengthOf, kindOf}
+use Rattle.records.specs.Record.{contentOf, restOf, parse, nth, tree}
 use Rattle.records.specs.Reading.{short}
 
 -- what is not too short for a record: its length, its kind and as many bytes as its length counts
@@ -72,7 +73,8 @@ module _ (k : ℕ) (content rest : Bytes) (small : k < 65536) (bounded : 2 + len
   -- a record's bytes are not short of a record
   pub front-short : short (recordBytes k content ++ rest) ≡ false
   front-short =
-      let l : length (recordBytes k content ++ rest) ≡ 6 + length content + length rest = length-append (recordBytes k content) rest ∙ ap (λ (n : ℕ). n + length rest) (record-length k content) in
+      let l : length (recordBytes k content ++ rest) ≡ 6 + length content + length rest =
+      length-append (recordBytes k content) rest ∙ ap (λ (n : ℕ). n + length rest) (record-length k content) in
       let f = front-length in
       enough-long (recordBytes k content ++ rest) (record { six = omega arith; two = omega arith; inside = omega arith })
 
@@ -202,7 +204,8 @@ pub tree-encode : (r : Record) → Canonical r → tree (encode r) ≡ r
 unfolding tree encode nth Canonical
 tree-encode r h =
     let e : encodeAll (r ▸ nil) ≡ encode r = append-nil (encode r) in
-    let p : parse (length (encodeAll (r ▸ nil))) (encodeAll (r ▸ nil)) ≡ r ▸ nil = parse-encodeAll (r ▸ nil) (length (encodeAll (r ▸ nil))) (h, tt) (le-refl (length (encodeAll (r ▸ nil)))) in
+    let p : parse (length (encodeAll (r ▸ nil))) (encodeAll (r ▸ nil)) ≡ r ▸ nil =
+    parse-encodeAll (r ▸ nil) (length (encodeAll (r ▸ nil))) (h, tt) (le-refl (length (encodeAll (r ▸ nil)))) in
     ap tree (sym e) ∙ ap (nth 0) p
 
 -- two canonical records with the same bytes are the same

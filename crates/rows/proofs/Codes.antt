@@ -125,7 +125,8 @@ none-at [] t j e = drop-nil j
 none-at (p ∷ ps) t zero e = let m = right-place p (both (rightPlace p) (rightPlaces ps) t .0) .more in absurd (omega arith)
 none-at (p ∷ ps) t (suc j) e = none-at ps (both (rightPlace p) (rightPlaces ps) t .1) j e
 
-some-at : (ps : List Place) → rightPlaces ps ≡ true → (j : ℕ) → (getD (map codeOf ps) j 0 ≡ 0 → ⊥) → drop j ps ≡ placeOf (getD (map codeOf ps) j 0) ∷ drop (suc j) ps
+some-at : (ps : List Place) → rightPlaces ps ≡ true → (j : ℕ) → (getD (map codeOf ps) j 0 ≡ 0 → ⊥)
+    → drop j ps ≡ placeOf (getD (map codeOf ps) j 0) ∷ drop (suc j) ps
 unfolding rightPlaces
 some-at [] t j n = absurd (n refl)
 some-at (p ∷ ps) t zero n = ap (λ (q : Place). q ∷ ps) (sym (right-place p (both (rightPlace p) (rightPlaces ps) t .0) .is))

@@ -27,7 +27,9 @@ pub same-parts : (s h t : Bytes) → length h ≤ length s → sameBytes (take (
 unfolding sameBytes
 same-parts s [] t l = refl
 same-parts [] (y ∷ h) t l = absurd (omega arith)
-same-parts (x ∷ s) (y ∷ h) t l = and-assoc (eqb x y) (sameBytes (take (length h) s) h) (sameBytes (drop (length h) s) t) ∙ ap (λ (b : Bool). eqb x y && b) (same-parts s h t (omega arith))
+same-parts (x ∷ s) (y ∷ h) t l =
+    and-assoc (eqb x y) (sameBytes (take (length h) s) h) (sameBytes (drop (length h) s) t)
+    ∙ ap (λ (b : Bool). eqb x y && b) (same-parts s h t (omega arith))
 
 -- the first i bytes are the same
 pub record Alike (a b : Bytes) (i : ℕ) : Type 0 where
@@ -49,4 +51,10 @@ module _ (a b : Bytes) (i : ℕ) (l : Alike a b i) where
 
   pub alike-next : i < length a → getD a i 0 ≡ getD b i 0 → Alike a b (i + 1)
   unfolding sameBytes
-  alike-next h e = let k = l .long in record { long = l .long; inside = omega arith; rest = l .rest ∙ rw (add-one i, drop-cons a i 0 h, drop-cons b i 0 (omega arith), eq-eqb (getD a i 0) (getD b i 0) e) }
+  alike-next h e =
+      let k = l .long in
+      record {
+        long = l .long;
+        inside = omega arith;
+        rest = l .rest ∙ rw (add-one i, drop-cons a i 0 h, drop-cons b i 0 (omega arith), eq-eqb (getD a i 0) (getD b i 0) e);
+      }

@@ -112,7 +112,8 @@ pub gathered-none : (s : Bytes) (from w : ℕ) → Gathered s from w 0 w
 unfolding num
 gathered-none s from w = let e : w - w ≡ 0 = omega arith in record { left = omega arith; is = rw e; small = rw e (omega arith) }
 
-pub gathered-byte : (s : Bytes) (from w n i : ℕ) → 0 < i → from + (i - 1) < length s → getD s (from + (i - 1)) 0 < 256 → Gathered s from w n i → Gathered s from w (n * 256 + getD s (from + (i - 1)) 0) (i - 1)
+pub gathered-byte : (s : Bytes) (from w n i : ℕ) → 0 < i → from + (i - 1) < length s → getD s (from + (i - 1)) 0 < 256 → Gathered s from w n i
+    → Gathered s from w (n * 256 + getD s (from + (i - 1)) 0) (i - 1)
 gathered-byte s from w n i p h b g =
     let e : w - (i - 1) ≡ suc (w - i) = (let l = g .left in omega arith) in
     let f : suc (from + (i - 1)) ≡ from + i = omega arith in
@@ -125,10 +126,11 @@ gathered-byte s from w n i p h b g =
 pub gathered-past : (s : Bytes) (from w n i : ℕ) → 0 < i → length s ≤ from + (i - 1) → Gathered s from w n i → Gathered s from w n (i - 1)
 gathered-past s from w n i p h g =
     let z : n ≡ 0 = g .is ∙ num-past s (from + i) (w - i) (omega arith) in
+    let m : 256 ^ (w - i) ≤ 256 ^ (w - (i - 1)) = pow-le-pow-right (zero-lt-suc 255) (let l = g .left in omega arith) in
     record {
       left = (let l = g .left in omega arith);
       is = z ∙ sym (num-past s (from + (i - 1)) (w - (i - 1)) h);
-      small = (let m : 256 ^ (w - i) ≤ 256 ^ (w - (i - 1)) = pow-le-pow-right (zero-lt-suc 255) (let l = g .left in omega arith) in let l = g .small in omega arith);
+      small = (let l = g .small in omega arith);
     }
 
 pub gathered-all : (s : Bytes) (from w n i : ℕ) → i ≤ 0 → Gathered s from w n i → (n ≡ num (take w (drop from s))) × (n < 256 ^ w)
@@ -139,7 +141,10 @@ gathered-all s from w n i h g =
 
 -- while a byte of four is left, what is gathered fits three
 pub gathered-below : (s : Bytes) (from w n i : ℕ) → w ≤ 4 → 0 < i → Gathered s from w n i → n < 16777216
-gathered-below s from w n i h p g = let m : 256 ^ (w - i) ≤ 256 ^ 3 = pow-le-pow-right (zero-lt-suc 255) {i = w - i} {j = 3} (omega arith) in let l = g .small in omega arith
+gathered-below s from w n i h p g =
+    let m : 256 ^ (w - i) ≤ 256 ^ 3 = pow-le-pow-right (zero-lt-suc 255) {i = w - i} {j = 3} (omega arith) in
+    let l = g .small in
+    omega arith
 
 -- what has a byte at every place is bytes
 pub are-bytes : (s : Bytes) → ((i : ℕ) → getD s i 0 < 256) → AreBytes s

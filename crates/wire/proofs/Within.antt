@@ -24,7 +24,9 @@ take-twice : (m n : ℕ) (s : Bytes) → take m (take n s) ≡ take (min m n) s
 take-twice zero n s = ap (λ (k : ℕ). take k s) (let e : 0 ≡ min 0 n = omega arith in e)
 take-twice (suc m) zero s = ap (λ (k : ℕ). take k s) (let e : 0 ≡ min (suc m) 0 = omega arith in e)
 take-twice (suc m) (suc n) [] = empty (min (suc m) (suc n))
-take-twice (suc m) (suc n) (b ∷ s) = ap (λ (t : Bytes). b ∷ t) (take-twice m n s) ∙ ap (λ (k : ℕ). take k (b ∷ s)) (let e : suc (min m n) ≡ min (suc m) (suc n) = omega arith in e)
+take-twice (suc m) (suc n) (b ∷ s) =
+    ap (λ (t : Bytes). b ∷ t) (take-twice m n s)
+    ∙ ap (λ (k : ℕ). take k (b ∷ s)) (let e : suc (min m n) ≡ min (suc m) (suc n) = omega arith in e)
 
 drop-of-take : (d n : ℕ) (s : Bytes) → drop d (take n s) ≡ take (n - d) (drop d s)
 drop-of-take zero n s = ap (λ (k : ℕ). take k s) (let e : n ≡ n - 0 = omega arith in e)

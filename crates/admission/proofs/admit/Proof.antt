@@ -15,13 +15,17 @@ good-root-requires : tie.Need-good-root-requires
 good-root-requires c κs = search needs
 
 returns-3 : tie.Need-returns-3
-returns-3 c = root-bad _ _ _ _ (omega (arith, c .before .before .before .if1 .left)) (omega (arith, c .before .before .if2 .left)) (c .before .good-root .ensures) (c .if3 .taken)
+returns-3 c =
+    root-bad _ _ _ _ (omega (arith, c .before .before .before .if1 .left)) (omega (arith, c .before .before .if2 .left))
+    (c .before .good-root .ensures) (c .if3 .taken)
 
 read-card-requires : tie.Need-read-card-requires
 read-card-requires c κs = search needs
 
 returns-4 : tie.Need-returns-4
-returns-4 c = card-read _ _ _ _ _ (omega (arith, c .before .before .before .before .if1 .left)) (omega (arith, c .before .before .before .if2 .left)) (c .before .before .good-root .ensures) (c .before .if3 .left) (c .read-card .ensures)
+returns-4 c =
+    card-read _ _ _ _ _ (omega (arith, c .before .before .before .before .if1 .left)) (omega (arith, c .before .before .before .if2 .left))
+    (c .before .before .good-root .ensures) (c .before .if3 .left) (c .read-card .ensures)
 
 pub admit-spec : {M : Type 1} → statement M
 admit-spec = tie.close (tie.spec returns returns-2 good-root-requires returns-3 read-card-requires returns-4)

@@ -29,7 +29,8 @@ part-result-end-2 : tie.Need-part-result-end-2
 part-result-end-2 c = search needs
 
 returns-2 : tie.Need-returns-2
-returns-2 c = content-small (c .before .before .before .before .before .args .s .now) _ (c .before .before .before .record-length .ensures .0) (c .before .if2 .taken)
+returns-2 c =
+    content-small (c .before .before .before .before .before .args .s .now) _ (c .before .before .before .record-length .ensures .0) (c .before .if2 .taken)
 
 add-e : tie.Need-add-e
 add-e c = search needs
@@ -44,7 +45,9 @@ part-result-end-3 : tie.Need-part-result-end-3
 part-result-end-3 c = search needs
 
 returns-3 : tie.Need-returns-3
-returns-3 c = content-past (c .before .before .before .before .before .before .args .s .now) _ (c .before .before .before .before .record-length .ensures .0) (c .before .if3 .taken)
+returns-3 c =
+    content-past (c .before .before .before .before .before .before .args .s .now) _ (c .before .before .before .before .record-length .ensures .0)
+    (c .before .if3 .taken)
 
 sub-result-4 : tie.Need-sub-result-4
 sub-result-4 c = search needs

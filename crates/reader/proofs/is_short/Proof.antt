@@ -11,13 +11,15 @@ record-length-requires : tie.Need-record-length-requires
 record-length-requires c κs = search needs
 
 returns-2 : tie.Need-returns-2
-returns-2 c = short-small (c .before .before .before .before .args .s .now) _ (c .before .record-length .ensures .0) (c .before .before .if1 .left) (c .if2 .taken)
+returns-2 c =
+    short-small (c .before .before .before .before .args .s .now) _ (c .before .record-length .ensures .0) (c .before .before .if1 .left) (c .if2 .taken)
 
 add-result : tie.Need-add-result
 add-result c = search needs
 
 returns-3 : tie.Need-returns-3
-returns-3 c = short-past (c .before .before .before .before .args .s .now) _ (c .before .record-length .ensures .0) (c .before .before .if1 .left) (c .if2 .left)
+returns-3 c =
+    short-past (c .before .before .before .before .args .s .now) _ (c .before .record-length .ensures .0) (c .before .before .if1 .left) (c .if2 .left)
 
 pub is-short-spec : {M : Type 1} → statement M
 is-short-spec = tie.close (tie.spec returns record-length-requires returns-2 add-result returns-3)

@@ -25,7 +25,9 @@ add-at : tie.Need-add-at Inv-loop μ-loop
 add-at c = search needs
 
 mul-n : tie.Need-mul-n Inv-loop μ-loop
-mul-n c = let b = gathered-below _ _ _ _ _ (c .before .before .before .before .pre .1) (c .before .loop-test .taken) (c .before .before .loop .inv) in omega arith
+mul-n c =
+    let b = gathered-below _ _ _ _ _ (c .before .before .before .before .pre .1) (c .before .loop-test .taken) (c .before .before .loop .inv) in
+    omega arith
 
 shared-slice-read-wide : tie.Need-shared-slice-read-wide Inv-loop μ-loop
 shared-slice-read-wide c = search needs
@@ -34,13 +36,19 @@ wide-requires : tie.Need-wide-requires Inv-loop μ-loop
 wide-requires c κs = search needs
 
 add-n : tie.Need-add-n Inv-loop μ-loop
-add-n c = let b = gathered-below _ _ _ _ _ (c .before .before .before .before .before .before .pre .1) (c .before .before .before .loop-test .taken) (c .before .before .before .before .loop .inv) in omega arith
+add-n c =
+    let b = gathered-below _ _ _ _ _ (c .before .before .before .before .before .before .pre .1) (c .before .before .before .loop-test .taken)
+    (c .before .before .before .before .loop .inv) in
+    omega arith
 
 loop-less : tie.Need-loop-less Inv-loop μ-loop
 loop-less c = search needs
 
 loop-again : tie.Need-loop-again Inv-loop μ-loop
-loop-again c = rw (c .wide .ensures .0) (gathered-byte _ _ _ _ _ (c .before .before .before .loop-test .taken) (c .before .before .if1 .taken) (omega arith) (c .before .before .before .before .loop .inv))
+loop-again c =
+    rw (c .wide .ensures .0)
+    (gathered-byte _ _ _ _ _ (c .before .before .before .loop-test .taken) (c .before .before .if1 .taken) (omega arith)
+    (c .before .before .before .before .loop .inv))
 
 loop-less-2 : tie.Need-loop-less-2 Inv-loop μ-loop
 loop-less-2 c = search needs

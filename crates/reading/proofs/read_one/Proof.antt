@@ -30,10 +30,26 @@ add-e : tie.Need-add-e
 add-e c = search needs
 
 returns-2 : tie.Need-returns-2
-returns-2 c = one-left _ _ _ _ (c .before .before .before .before .read-record .ensures) _ (c .before .before .enum-told .given .1) (c .before .record-length .ensures .0) (omega (arith, c .if1 .taken))
+returns-2 c =
+    one-left _ _ _ _ (c .before .before .before .before .read-record .ensures) _ (c .before .before .enum-told .given .1)
+    (c .before .record-length .ensures .0) (omega (arith, c .if1 .taken))
 
 returns-3 : tie.Need-returns-3
-returns-3 c = one-whole _ _ _ _ (c .before .before .before .before .read-record .ensures) _ (c .before .before .enum-told .given .1) (c .before .record-length .ensures .0) (omega (arith, c .if1 .left))
+returns-3 c =
+    one-whole _ _ _ _ (c .before .before .before .before .read-record .ensures) _ (c .before .before .enum-told .given .1)
+    (c .before .record-length .ensures .0) (omega (arith, c .if1 .left))
 
 pub read-one-spec : {M : Type 1} → statement M
-read-one-spec = tie.close (tie.spec table-requires slice-aggregate-read-record read-record-requires enum-told enum-known-v returns record-length-requires add-e returns-2 returns-3)
+read-one-spec =
+    tie.close
+    (tie.spec
+    table-requires
+    slice-aggregate-read-record
+    read-record-requires
+    enum-told
+    enum-known-v
+    returns
+    record-length-requires
+    add-e
+    returns-2
+    returns-3)

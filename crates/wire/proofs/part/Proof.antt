@@ -29,7 +29,8 @@ part-result-end-2 : tie.Need-part-result-end-2
 part-result-end-2 c = search needs
 
 returns-2 : tie.Need-returns-2
-returns-2 c = part-rest (c .before .before .before .args .s .now) (c .before .before .before .args .from) (c .before .before .before .args .len) (c .before .if2 .taken)
+returns-2 c =
+    part-rest (c .before .before .before .args .s .now) (c .before .before .before .args .from) (c .before .before .before .args .len) (c .before .if2 .taken)
 
 add-to : tie.Need-add-to
 add-to c = search needs

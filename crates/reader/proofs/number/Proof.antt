@@ -5,8 +5,6 @@ use borrow.Author.Needs.{needs}
 use Rattle.wire.proofs.Numbers.{Gathered, gathered-none, gathered-byte, gathered-past, gathered-all, gathered-below}
 use Rattle.reader.proofs.number.Statement.{statement}
 use Rattle.reader.proofs.number.Tie as tie
-use Rattle.reader.proofs.number.Reads as reads
-use Rattle.reader.proofs.number.Lts as lts
 use Rattle.wire.proofs.wide.Reads as wide-reads
 
 abbrev Inv-loop : tie.InvT-loop

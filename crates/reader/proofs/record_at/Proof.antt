@@ -1,21 +1,15 @@
+-- `reader::record_at` meets its contract, by a law of Front. Assumes nothing.
 use borrow.Author.Needs.{needs}
 use Rattle.reader.proofs.Front.{record-at-is}
 use Rattle.reader.proofs.record_at.Statement.{statement}
 use Rattle.reader.proofs.record_at.Tie as tie
-use Rattle.reader.proofs.record_at.Reads as reads
-use Rattle.reader.proofs.record_at.Lts as lts
-use Rattle.reader.proofs.record.Reads as record-reads
-use Rattle.wire.proofs.part.Reads as part-reads
 
--- src/lib.rt:16:20
 part-requires : tie.Need-part-requires
 part-requires c κs = search needs
 
--- src/lib.rt:16:5
 record-requires : tie.Need-record-requires
 record-requires c κs = search needs
 
--- src/lib.rt:13:1
 returns : tie.Need-returns
 returns c = record-at-is (c .before .before .before .args .s .now) _ _ (c .before .before .before .args .at) (c .before .part .ensures) (c .record .ensures)
 

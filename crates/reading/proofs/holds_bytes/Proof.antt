@@ -3,8 +3,6 @@ use native.Mathlib.Omega.{arith}
 use Rattle.reading.proofs.Places.{bytes-list, bytes-name, bytes-text, bytes-other}
 use Rattle.reading.proofs.holds_bytes.Statement.{statement}
 use Rattle.reading.proofs.holds_bytes.Tie as tie
-use Rattle.reading.proofs.holds_bytes.Reads as reads
-use Rattle.reading.proofs.holds_bytes.Lts as lts
 
 returns : tie.Need-returns
 returns c = bytes-list _ _ (c .before .pre) (omega arith)

@@ -13,3 +13,4 @@ pub mod Shape
 pub mod Faults
 pub mod First
 pub mod Front
+pub mod Starts

@@ -14,3 +14,4 @@ pub mod Faults
 pub mod First
 pub mod Front
 pub mod Starts
+pub mod Worked

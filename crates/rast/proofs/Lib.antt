@@ -1,3 +1,4 @@
 pub mod Tests
 pub mod Names
 pub mod Keeps
+pub mod Worked

@@ -1,3 +1,4 @@
 pub mod Walked
 pub mod Modules
 pub mod Demand
+pub mod Refuted

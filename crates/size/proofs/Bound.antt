@@ -22,6 +22,7 @@ use Rattle.factor_paths.specs.Mapping.{FinalReplacement}
 use Rattle.factor_paths.specs.Apply.{pathsToRemove, imports, applyPrefix, apply}
 use Rattle.factor_paths.specs.Walk.{walkDecl}
 use Rattle.factor_paths.proofs.Modules.{ModFields, mod-fields, module-walk, extern-walk}
+use Rattle.size.specs.Bound.{Bounded}
 use Rattle.size.proofs.Sizes.{size, sizeAll, size-append, encode-size}
 use Rattle.size.proofs.Walked.{charge, chargeAll}
 use Rattle.size.proofs.Declared.{declared-size}
@@ -79,7 +80,7 @@ unfolding apply
 output-bound root m h l = rw (encode-size (apply upstream root m), encode-size m) (applied-size (deep m) m (MSel root (nameOf m)) h l)
 
 -- and so of a card's bytes that read sound, whatever the root
-pub card-bound : (root : Path) (card : Bytes) → AreBytes card → reading (upstream .cardDepth) (upstream .outermost) card ≡ Sound → length (encode (apply upstream root (tree card))) ≤ 42 * length card
+pub card-bound : Bounded upstream
 card-bound root card h e =
     let r = sound-reads (upstream .cardDepth) (upstream .outermost) card h e in
     rw (r .encoded) at (output-bound root (tree card) (r .fits) (r .shallow))

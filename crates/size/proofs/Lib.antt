@@ -4,3 +4,4 @@ pub mod Declared
 pub mod Visited
 pub mod Mapped
 pub mod Bound
+pub mod Least

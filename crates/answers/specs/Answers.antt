@@ -1,5 +1,5 @@
--- 01, "The console's answers": the number of each answer, and its length or place. Assumes nothing: these are definitions.
-use Prim.Native.Nat.{ℕ}
+-- 01, "The console's answers": the number of each answer, its length or place, and both in one number. Assumes nothing: these are definitions.
+use Prim.Native.Nat.{ℕ, _+_, _*_, _%_}
 use Rattle.answers.specs.declared.Answer.{Answer}
 use Rattle.answers.specs.declared.Answer.the-variants.{Shortened, ShortWork, LongCard, BadRoot, ShortRecord, WrongKind, TooDeep}
 use Rattle.answers.specs.declared.Answer.the-variants.{LeftOver, FullTable, NoSpace}
@@ -28,3 +28,7 @@ value (TooDeep place) = place
 value (LeftOver place) = place
 value (FullTable place) = place
 value NoSpace = 0
+
+-- one number of 64 bits: the number times 2 ^ 32, plus the length or place, whose lower 32 bits alone count
+unfoldable pub packed : Answer → ℕ
+packed a = number a * 4294967296 + value a % 4294967296

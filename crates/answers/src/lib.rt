@@ -1,6 +1,6 @@
 // The answers of document 01, "The console's answers": a case for each row of its table, and acceptance.
 ghost use mathlib.Core.Path.{_≡_};
-ghost use Rattle.answers.specs.Answers.{number as Answers·number, value as Answers·value};
+ghost use Rattle.answers.specs.Answers.{number as Answers·number, value as Answers·value, packed as Answers·packed};
 
 pub enum Answer {
     // with the output's length
@@ -57,4 +57,13 @@ pub fn value(a: Answer) -> usize
         Answer::FullTable(p) => p,
         Answer::NoSpace => 0,
     }
+}
+
+// Both in one number, for programs in Rust and C: the number times 2 ^ 32, plus the length or place, of which the lower 32 bits are kept.
+pub fn packed(a: Answer) -> u64
+    ensures { λ r. ⌜ r ≡ Answers·packed a ⌝ }
+{
+    let n = number(a) as u64;
+    let p = value(a) as u64;
+    n * 4294967296 + p % 4294967296
 }

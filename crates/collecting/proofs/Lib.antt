@@ -1,10 +1,2 @@
 pub mod Between
-pub mod Own
-pub mod Marks
-pub mod Paths
-pub mod Parts
-pub mod Names
-pub mod Trees
 pub mod Ring
-pub mod Module
-pub mod Mapped

@@ -1,210 +1,165 @@
--- The ring, step by step: what each member's answer says of the table. Assumes nothing.
+-- The ring, step by step: what each member's answer is. Assumes nothing.
 use mathlib.Core.Path.{_≡_, refl, ap, sym, _∙_}
 use mathlib.Core.Bool.{Bool, true, false, cond}
 use mathlib.Core.List.{List, [], _∷_}
-use Prim.Native.Nat.{ℕ, zero, suc, _+_, _-_, _^_, _<_, _≤_}
+use Prim.Native.Nat.{ℕ, zero, suc, _+_, _-_, _*_, _^_, _<_, _≤_}
 use native.Mathlib.Omega.{arith}
 use native.Mathlib.Numerals.{add-one}
 use lib.ListN.{length, take, drop, length-take, length-drop}
 use lib.Dec.{eqb}
-use borrow.Author.Tests.{eq-eqb, ne-eqb}
-use Rattle.wire.specs.Numbers.{Bytes}
+use borrow.Author.Tests.{eq-eqb, ne-eqb, lt-ltb, le-ltb}
+use Rattle.wire.specs.Numbers.{Bytes, between, num}
 use Rattle.wire.proofs.Less.{at-least-one}
-use Rattle.wire.proofs.Within.{Within, within-all, within-drop, within-front, within-own}
-use Rattle.records.specs.Record.{isLeaf, lengthOf, kindOf, restOf}
+use Rattle.wire.proofs.Slices.{tail-part}
+use Rattle.records.specs.Record.{isLeaf, lengthOf, kindOf}
 use Rattle.records.specs.Kinds.{stands, kinds}
 use Rattle.records.specs.Reading.{short}
 use Rattle.records.proofs.Tree.{Enough, long-enough}
+use Rattle.rast.proofs.Tests.{by-test}
 use Rattle.factor_paths.specs.Collects.{Visited, aType, anExpr, aDecl, holds, visitedAs, enters}
-use Rattle.prefix.specs.Prefix.{firstRecord}
-use Rattle.table.specs.Words.{Stored, Makes}
-use Rattle.table.proofs.Stores.{makes-none, makes-both, makes-same}
-use Rattle.collecting.specs.Gathers.{recordsUpTo, recordsIn, gatherPath, gatherName, gatherEach, gatherAs, gatherSelf, gather, gatherField, gatherParts}
+use Rattle.prefix.specs.Prefix.{Scope}
+use Rattle.adding.specs.Adds.{Table, table, started, added}
+use Rattle.visiting.specs.Visits.{visitPath, visitName}
+use Rattle.gathering.proofs.Spans.{span-fits, none-short, none-in, first-in}
+use Rattle.gathering.specs.Gathers.{Span, span, spansUpTo, spansIn, gatherEach, gatherAs, gatherSelf, gather, gatherField, gatherParts, gatherWhole}
+use Rattle.gathering.specs.Gathers.{gatherModule}
+use Rattle.gathering.specs.Gathers.{IsNode, recordAdded, fieldAdded, partsAdded, wholeAdded, gathered}
 
--- the records in bytes, whatever their number is bounded by
-upTo-same : (n m : ℕ) (s : Bytes) → length s ≤ n → length s ≤ m → recordsUpTo n s ≡ recordsUpTo m s
-unfolding recordsUpTo
-upTo-same zero zero s h g = refl
-upTo-same zero (suc m) [] h g = refl
-upTo-same zero (suc m) (b ∷ s) h g = absurd (omega arith)
-upTo-same (suc n) zero [] h g = refl
-upTo-same (suc n) zero (b ∷ s) h g = absurd (omega arith)
-upTo-same (suc n) (suc m) [] h g = refl
-upTo-same (suc n) (suc m) (b ∷ s) h g =
-    let l = length-drop (4 + lengthOf (b ∷ s)) (b ∷ s) in
-    ap (λ (rs : List Bytes). cond (short (b ∷ s)) [] (firstRecord (b ∷ s) ∷ rs)) (upTo-same n m (restOf (b ∷ s)) (omega arith) (omega arith))
+-- what falls: four times the depth that is left, and less by who calls whom
+pub record-falls : (t left c : ℕ) → 4 * left + 0 ≡ t → (left ≡ 0 → ⊥) → c < 4 → 4 * (left - 1) + c < t
+record-falls t left c e n l = let o = at-least-one left n in omega arith
 
-none-in : (s : Bytes) → short s ≡ true → recordsIn s ≡ []
-unfolding recordsIn recordsUpTo
-none-in [] h = refl
-none-in (b ∷ s) h = rw h
+pub parts-fall : (t left c d : ℕ) → 4 * left + c ≡ t → d < c → 4 * left + d < t
+parts-fall t left c d e l = omega arith
 
-first-in : (s : Bytes) → short s ≡ false → recordsIn s ≡ firstRecord s ∷ recordsIn (restOf s)
-unfolding recordsIn recordsUpTo
-first-in [] h = absurd (let e = long-enough [] h in let six = e .six in omega arith)
-first-in (b ∷ s) h =
-    let l = length-drop (4 + lengthOf (b ∷ s)) (b ∷ s) in
-    rw h (ap (λ (rs : List Bytes). firstRecord (b ∷ s) ∷ rs) (upTo-same (length s) (length (restOf (b ∷ s))) (restOf (b ∷ s)) (omega arith) (omega arith)))
+-- the fields from field i on, which start at a place: what is done with these makes all
+module _ (s : Scope) (t₀ : Table) (from to k left : ℕ) where
+  abbrev On : Table → ℕ → ℕ → Table
+  On t at i = gatherEach (gather (added s) (s .card) left) k i t (spansIn (s .card) at to)
 
--- the part of the card from one place to another
-abbrev pub between : Bytes → ℕ → ℕ → Bytes
-between card from to = take (to - from) (drop from card)
-
-between-length : (card : Bytes) (from to : ℕ) → to ≤ length card → length (between card from to) ≡ to - from
-between-length card from to h =
-    let a = length-take (to - from) (drop from card) in
-    let b = length-drop from card in
-    omega arith
-
--- what follows the first d bytes of it
-between-drop : (card : Bytes) (from to d : ℕ) → to ≤ length card → from + d ≤ to → drop d (between card from to) ≡ between card (from + d) to
-between-drop card from to d h g =
-    let w : Within card (from + d) (drop d (between card from to)) = within-drop card from (between card from to) (within-all card from (to - from) (between card from to) refl) d in
-    let l = length-drop d (between card from to) in
-    let m = between-length card from to h in
-    sym (within-own card (from + d) (drop d (between card from to)) w) ∙ ap (λ (n : ℕ). take n (drop (from + d) card)) (let e : length (drop d (between card from to)) ≡ to - (from + d) = omega arith in e)
-
--- a record at the front of it
-module _ (card s : Bytes) (from to n : ℕ) (h : to ≤ length card) (e : s ≡ between card from to) (b : Bool) (f : b ≡ short s) (g : b ≡ false) (l : (n ≡ lengthOf s) × (n < 2 ^ 32)) where
-  enough : Enough s
-  enough = long-enough s (sym f ∙ g)
-
-  long : length s ≡ to - from
-  long = ap length e ∙ between-length card from to h
-
-  pub record-six : from + 6 ≤ from + 4 + n
-  record-six = let t = enough .two in let k = l .0 in omega arith
-
-  pub record-to : from + 4 + n ≤ to
-  record-to = let i = enough .inside in let k = l .0 in let m = long in let x = enough .six in omega arith
-
-  record-is : between card from (from + 4 + n) ≡ firstRecord s
-  record-is =
-      let i = enough .inside in
-      ap (λ (k : ℕ). take k (drop from card)) (let z : from + 4 + n - from ≡ 4 + lengthOf s = (let k = l .0 in omega arith) in z)
-      ∙ sym (within-front card from s (within-all card from (to - from) s e) (4 + lengthOf s) i)
-
-  rest-is : restOf s ≡ between card (from + 4 + n) to
-  rest-is =
-      let r = record-to in
-      ap (λ (k : ℕ). drop (4 + k) s) (sym (l .0)) ∙ ap (drop (4 + n)) e ∙ between-drop card from to (4 + n) h (omega arith) ∙ ap (λ (k : ℕ). between card k to) (let z : from + (4 + n) ≡ from + 4 + n = omega arith in z)
-
-module _ (card prefix : Bytes) (words₀ : List ℕ) (n from to k left : ℕ) where
-  abbrev All : List Stored → List Stored
-  All t = gatherParts prefix left k t (between card from to)
-
-  -- the fields from field i on, which start at a place
-  abbrev On : ℕ → ℕ → List Stored → List Stored
-  On at i t = gatherEach (gather prefix left) k i t (recordsIn (between card at to))
-
-  -- what is done with these makes all
-  pub record Going (words : List ℕ) (at i m : ℕ) : Type 0 where
+  pub record Going (t : Table) (at i : ℕ) : Type 0 where
     pub ordered : at ≤ to
     pub counted : i ≤ at
-    pub on : (w : List ℕ) (r : ℕ) → Makes card prefix words w m r (On at i) → Makes card prefix words₀ w n r All
+    pub rest : partsAdded s left k t₀ from to ≡ On t at i
 
-  pub going-start : from ≤ to → Going words₀ from 0 n
+  pub going-start : from ≤ to → Going t₀ from 0
   unfolding gatherParts
-  going-start h = record { ordered = h; counted = omega arith; on = λ w r m. makes-same card prefix words₀ w n r (On from 0) All (λ t. refl) m }
+  going-start h = record { ordered = h; counted = omega arith; rest = refl }
 
-  module _ (words : List ℕ) (at i m : ℕ) (g : Going words at i m) where
-    stops : recordsIn (between card at to) ≡ [] → Makes card prefix words₀ words n m All
+  module _ (t : Table) (at i : ℕ) (g : Going t at i) where
+    stops : spansIn (s .card) at to ≡ [] → t ≡ partsAdded s left k t₀ from to
     unfolding gatherEach
-    stops e = g .on words m (makes-none card prefix words m (On at i) (λ t. ap (gatherEach (gather prefix left) k i t) e))
+    stops e = sym (g .rest ∙ ap (gatherEach (gather (added s) (s .card) left) k i t) e)
 
-    pub going-done : to ≤ at → Makes card prefix words₀ words n m All
-    going-done h = stops (ap recordsIn (ap (λ (j : ℕ). take j (drop at card)) (let e : to - at ≡ 0 = omega arith in e)) ∙ none-in [] refl)
+    pub going-done : to ≤ at → t ≡ partsAdded s left k t₀ from to
+    going-done h = stops (none-in (s .card) at to (none-short (s .card) at to (omega arith)))
 
-    module _ (s : Bytes) (b : Bool) (e : s ≡ between card at to) (f : b ≡ short s) where
-      pub going-short : b ≡ true → Makes card prefix words₀ words n m All
-      going-short h = stops (ap recordsIn (sym e) ∙ none-in s (sym f ∙ h))
+    module _ (x : Bytes) (b : Bool) (e : x ≡ between (s .card) at to) (f : b ≡ short x) where
+      is-short : short (between (s .card) at to) ≡ b
+      is-short = ap short (sym e) ∙ sym f
 
-      pub going-next : to ≤ length card → b ≡ false → (l : ℕ) → (l ≡ lengthOf s) × (l < 2 ^ 32) → (w : List ℕ) (r : ℕ)
-          → Makes card prefix words w m r (λ t. gatherField prefix left k i t (between card at (at + 4 + l))) → Going w (at + 4 + l) (i + 1) r
-      unfolding gatherEach gatherField
-      going-next h c l d w r q =
-          let o = record-to card s at to l h e b f c d in
-          let j = g .counted in
-          record {
-            ordered = o;
-            counted = omega arith;
-            on = λ u v a. g .on u v (makes-same card prefix words u m v (λ t. On (at + 4 + l) (i + 1) (gatherField prefix left k i t (between card at (at + 4 + l)))) (On at i) same
-                (makes-both card prefix words w u m r v (λ t. gatherField prefix left k i t (between card at (at + 4 + l))) (On (at + 4 + l) (i + 1)) q a));
-          }
-        where
-          same : (t : List Stored) → On at i t ≡ On (at + 4 + l) (i + 1) (gatherField prefix left k i t (between card at (at + 4 + l)))
-          same t =
-              ap (gatherEach (gather prefix left) k i t) (ap recordsIn (sym e) ∙ first-in s (sym f ∙ c))
-              ∙ rw (add-one i, record-is card s at to l h e b f c d, ← rest-is card s at to l h e b f c d)
+      pub going-short : b ≡ true → t ≡ partsAdded s left k t₀ from to
+      going-short h = stops (none-in (s .card) at to (is-short ∙ h))
+
+      module _ (h : b ≡ false) (l : ℕ) (q : (l ≡ lengthOf x) × (l < 2 ^ 32)) where
+        is-length : lengthOf (between (s .card) at to) ≡ l
+        is-length = ap lengthOf (sym e) ∙ sym (q .0)
+
+        pub going-six : at + 6 ≤ at + 4 + l
+        going-six = let f = span-fits (s .card) at to (is-short ∙ h) .0 in let n = is-length in omega arith
+
+        pub going-to : at + 4 + l ≤ to
+        going-to = let f = span-fits (s .card) at to (is-short ∙ h) .1 in let n = is-length in omega arith
+
+        pub going-next : (u : Table) → u ≡ fieldAdded s left k i t at (at + 4 + l) → Going u (at + 4 + l) (i + 1)
+        unfolding gatherEach gatherField
+        going-next u y =
+            let n = is-length in
+            let c = g .counted in
+            let o = going-to in
+            record {
+              ordered = o;
+              counted = omega arith;
+              rest =
+                  g .rest ∙ ap (gatherEach (gather (added s) (s .card) left) k i t) (first-in (s .card) at to (is-short ∙ h))
+                  ∙ rw (n, y, add-one i);
+            }
+
+-- nothing is collected from a Text or a Kept
+leaf-left : (s : Scope) (t : Table) (from to left j : ℕ) → j ≡ kindOf (between (s .card) from to) → isLeaf j ≡ true → t ≡ recordAdded s left t from to
+unfolding gather
+leaf-left s t from to zero j e g = refl
+leaf-left s t from to (suc n) j e g = rw (← e, g)
+
+pub leaf-text : (k : ℕ) → k ≡ 1 → isLeaf k ≡ true
+leaf-text k h = rw h
+
+pub leaf-kept : (k : ℕ) → k ≡ 3 → isLeaf k ≡ true
+leaf-kept k h = rw h
 
 -- a field that is entered, and one that is not
-module _ (card prefix : Bytes) (words : List ℕ) (n from to k i left : ℕ) (b : Bool) (e : b ≡ enters k i) where
-  abbrev Field : List Stored → List Stored
-  Field t = gatherField prefix left k i t (between card from to)
-
-  pub field-in : b ≡ true → (w : List ℕ) (r : ℕ) → Makes card prefix words w n r (λ t. gather prefix left t (between card from to)) → Makes card prefix words w n r Field
+module _ (s : Scope) (t : Table) (from to k i left : ℕ) (b : Bool) (e : b ≡ enters k i) where
+  pub field-out : b ≡ false → t ≡ fieldAdded s left k i t from to
   unfolding gatherField
-  field-in h w r m = makes-same card prefix words w n r (λ t. gather prefix left t (between card from to)) Field (λ t. rw (← e, h)) m
+  field-out h = rw (← e, h)
 
-  pub field-out : b ≡ false → Makes card prefix words words n n Field
-  unfolding gatherField
-  field-out h = makes-none card prefix words n Field (λ t. rw (← e, h))
+  module _ (h : b ≡ true) (x : Bytes) (j : ℕ) (d : x ≡ between (s .card) from to) (f : (j ≡ kindOf x) × (j < 65536)) where
+    is-kind : j ≡ kindOf (between (s .card) from to)
+    is-kind = f .0 ∙ ap kindOf d
 
--- a type, an expression and a declaration of kind k: itself, then its fields
-module _ (card prefix : Bytes) (words : List ℕ) (n from to k left : ℕ) where
-  abbrev Whole : List Stored → List Stored
-  Whole t = gatherParts prefix left k (gatherSelf prefix k t (between card from to)) (between card from to)
+    pub field-leaf : isLeaf j ≡ true → t ≡ fieldAdded s left k i t from to
+    unfolding gatherField
+    field-leaf g = rw (← e, h) (leaf-left s t from to left j is-kind g)
 
-  -- where no field is entered
-  closed : (f : List Stored → Bytes → List Stored) (j i : ℕ) (t : List Stored) (rs : List Bytes) → ((i : ℕ) → enters j i ≡ false) → gatherEach f j i t rs ≡ t
-  unfolding gatherEach
-  closed f j i t [] h = refl
-  closed f j i t (r ∷ rs) h = rw (h i) (closed f j (suc i) t rs h)
+    pub field-node : (j ≡ 1 → ⊥) → (j ≡ 3 → ⊥) → IsNode (s .card) from to j
+    field-node n m = (is-kind, rw (ne-eqb j 1 n, ne-eqb j 3 m))
 
-  -- a type whose path is collected at 2D, an expression whose path is at 5C
-  self-path : (v : Visited) (j : ℕ) (inExpr : Bool) → ((t : List Stored) (c : Bytes) → gatherAs prefix v k t c ≡ cond (eqb k j) (gatherPath inExpr t c) t)
-      → visitedAs k ≡ v → (t : List Stored) (c : Bytes) → gatherSelf prefix k t c ≡ cond (eqb k j) (gatherPath inExpr t c) t
+    pub field-in : (u : Table) → u ≡ recordAdded s left t from to → u ≡ fieldAdded s left k i t from to
+    unfolding gatherField
+    field-in u y = y ∙ rw (← e, h)
+
+-- where no field is entered
+closed : {T : Type 0} (f : T → Span → T) (j i : ℕ) (t : T) (rs : List Span) → ((i : ℕ) → enters j i ≡ false) → gatherEach f j i t rs ≡ t
+unfolding gatherEach
+closed f j i t [] h = refl
+closed f j i t (r ∷ rs) h = rw (h i) (closed f j (suc i) t rs h)
+
+-- a type, an expression, a declaration and what holds others, of kind k: itself, then its fields
+module _ (s : Scope) (t : Table) (from to k left : ℕ) where
+  abbrev Whole : Table
+  Whole = wholeAdded s left k t from to
+
+  self-as : (v : Visited) → visitedAs k ≡ v → gatherSelf (added s) (s .card) k t from to ≡ gatherAs (added s) (s .card) v k t from to
   unfolding gatherSelf
-  self-path v j inExpr h e t c = ap (λ (x : Visited). gatherAs prefix x k t c) e ∙ h t c
+  self-as v e = ap (λ (x : Visited). gatherAs (added s) (s .card) x k t from to) e
 
-  module _ (w : List ℕ) (r : ℕ) where
-    module _ (v : Visited) (j : ℕ) (inExpr : Bool) (h : (t : List Stored) (c : Bytes) → gatherAs prefix v k t c ≡ cond (eqb k j) (gatherPath inExpr t c) t) (e : visitedAs k ≡ v) where
-      at-path : ((i : ℕ) → enters j i ≡ false) → k ≡ j → Makes card prefix words w n r (λ t. gatherPath inExpr t (between card from to)) → Makes card prefix words w n r Whole
-      unfolding gatherParts
-      at-path shut g m =
-          makes-same card prefix words w n r (λ t. gatherPath inExpr t (between card from to)) Whole
-          (λ t. closed (gather prefix left) k 0 (gatherSelf prefix k t (between card from to)) (recordsIn (between card from to)) (λ i. rw g (shut i)) ∙ self-path v j inExpr h e t (between card from to) ∙ rw (eq-eqb k j g)) m
+  whole-as : (v : Visited) → visitedAs k ≡ v → Whole ≡ partsAdded s left k (gatherAs (added s) (s .card) v k t from to) from to
+  unfolding gatherWhole
+  whole-as v e = ap (λ (x : Table). partsAdded s left k x from to) (self-as v e)
 
-      at-other : (k ≡ j → ⊥) → Makes card prefix words w n r (λ t. gatherParts prefix left k t (between card from to)) → Makes card prefix words w n r Whole
-      at-other g m =
-          makes-same card prefix words w n r (λ t. gatherParts prefix left k t (between card from to)) Whole
-          (λ t. ap (λ (u : List Stored). gatherParts prefix left k u (between card from to)) (self-path v j inExpr h e t (between card from to) ∙ rw (ne-eqb k j g))) m
+  module _ (u : Table) where
+    -- the path of a type or an expression, of which no field is entered
+    shut : (v : Visited) (j : ℕ) → visitedAs k ≡ v → ((i : ℕ) → enters j i ≡ false) → k ≡ j → gatherAs (added s) (s .card) v k t from to ≡ u → u ≡ Whole
+    unfolding gatherParts
+    shut v j e n g y = sym (whole-as v e ∙ closed (gather (added s) (s .card) left) k 0 _ (spansIn (s .card) from to) (λ i. rw g (n i)) ∙ y)
 
-    pub type-path : visitedAs k ≡ aType → k ≡ 0x2D → Makes card prefix words w n r (λ t. gatherPath false t (between card from to)) → Makes card prefix words w n r Whole
-    type-path e = at-path aType 0x2D false (λ t c. refl) e (λ i. refl)
+    pub type-path : visitedAs k ≡ aType → k ≡ 0x2D → u ≡ visitPath (added s) (s .card) false t from to → u ≡ Whole
+    type-path e g y = shut aType 0x2D e (λ i. refl) g (rw (eq-eqb k 0x2D g) (sym y))
 
-    pub type-other : visitedAs k ≡ aType → (k ≡ 0x2D → ⊥) → Makes card prefix words w n r (λ t. gatherParts prefix left k t (between card from to)) → Makes card prefix words w n r Whole
-    type-other = at-other aType 0x2D false (λ t c. refl)
+    pub expr-path : visitedAs k ≡ anExpr → k ≡ 0x5C → u ≡ visitPath (added s) (s .card) true t from to → u ≡ Whole
+    expr-path e g y = shut anExpr 0x5C e (λ i. refl) g (rw (eq-eqb k 0x5C g) (sym y))
 
-    pub expr-path : visitedAs k ≡ anExpr → k ≡ 0x5C → Makes card prefix words w n r (λ t. gatherPath true t (between card from to)) → Makes card prefix words w n r Whole
-    expr-path e = at-path anExpr 0x5C true (λ t c. refl) e (λ i. refl)
+    pub type-other : visitedAs k ≡ aType → (k ≡ 0x2D → ⊥) → u ≡ partsAdded s left k t from to → u ≡ Whole
+    type-other e g y = y ∙ sym (whole-as aType e ∙ rw (ne-eqb k 0x2D g))
 
-    pub expr-other : visitedAs k ≡ anExpr → (k ≡ 0x5C → ⊥) → Makes card prefix words w n r (λ t. gatherParts prefix left k t (between card from to)) → Makes card prefix words w n r Whole
-    expr-other = at-other anExpr 0x5C true (λ t c. refl)
+    pub expr-other : visitedAs k ≡ anExpr → (k ≡ 0x5C → ⊥) → u ≡ partsAdded s left k t from to → u ≡ Whole
+    expr-other e g y = y ∙ sym (whole-as anExpr e ∙ rw (ne-eqb k 0x5C g))
 
-    pub decl-both : visitedAs k ≡ aDecl → (u : List ℕ) (m : ℕ) → Makes card prefix words u n m (λ t. gatherName prefix t k (between card from to))
-        → Makes card prefix u w m r (λ t. gatherParts prefix left k t (between card from to)) → Makes card prefix words w n r Whole
-    unfolding gatherSelf
-    decl-both v u m a b =
-        makes-same card prefix words w n r (λ t. gatherParts prefix left k (gatherName prefix t k (between card from to)) (between card from to)) Whole
-        (λ t. ap (λ (x : Visited). gatherParts prefix left k (gatherAs prefix x k t (between card from to)) (between card from to)) v)
-        (makes-both card prefix words u w n m r (λ t. gatherName prefix t k (between card from to)) (λ t. gatherParts prefix left k t (between card from to)) a b)
+    pub decl-both : visitedAs k ≡ aDecl → (m : Table) → m ≡ visitName (added s) (s .card) k t from to → u ≡ partsAdded s left k m from to → u ≡ Whole
+    decl-both e m x y = y ∙ rw x (sym (whole-as aDecl e))
 
-    pub plain : visitedAs k ≡ holds → Makes card prefix words w n r (λ t. gatherParts prefix left k t (between card from to)) → Makes card prefix words w n r Whole
-    unfolding gatherSelf
-    plain v m =
-        makes-same card prefix words w n r (λ t. gatherParts prefix left k t (between card from to)) Whole
-        (λ t. ap (λ (x : Visited). gatherParts prefix left k (gatherAs prefix x k t (between card from to)) (between card from to)) v) m
+    pub plain : visitedAs k ≡ holds → u ≡ partsAdded s left k t from to → u ≡ Whole
+    plain e y = y ∙ sym (whole-as holds e)
 
 -- how a kind is visited, by the tests
 module _ (k : ℕ) (a : Bool) (e : a ≡ stands (kinds 0x20 0x38) k) where
@@ -223,37 +178,88 @@ module _ (k : ℕ) (a : Bool) (e : a ≡ stands (kinds 0x20 0x38) k) where
       visited-not h = rw (← e, n, ← f, m, ← g, h)
 
 -- a record: nothing where no depth is left and at a leaf, else itself and its fields
-module _ (card prefix : Bytes) (words : List ℕ) (n from to left : ℕ) where
-  abbrev Record : List Stored → List Stored
-  Record t = gather prefix left t (between card from to)
-
-  pub record-deep : left ≡ 0 → Makes card prefix words words n n Record
+module _ (s : Scope) (t : Table) (from to left : ℕ) where
+  pub record-deep : left ≡ 0 → t ≡ recordAdded s left t from to
   unfolding gather
-  record-deep h = makes-none card prefix words n Record (λ t. rw h)
+  record-deep h = rw h
 
-  module _ (d : left ≡ 0 → ⊥) (s : Bytes) (k : ℕ) (e : s ≡ between card from to) (f : (k ≡ kindOf s) × (k < 65536)) where
-    one-less : left ≡ suc (left - 1)
-    one-less = let o = at-least-one left d in omega arith
+  -- a record that is no leaf: itself and its fields
+  pub record-node : (left ≡ 0 → ⊥) → (k : ℕ) → IsNode (s .card) from to k → (u : Table) → u ≡ wholeAdded s (left - 1) k t (from + 6) to
+      → u ≡ recordAdded s left t from to
+  unfolding gather gatherParts gatherWhole
+  record-node d k e u y =
+      let o = at-least-one left d in
+      let n : left ≡ suc (left - 1) = omega arith in
+      y ∙ sym (ap (λ (m : ℕ). gather (added s) (s .card) m t (span from to)) n ∙ rw (← e .0, e .1))
 
-    stepped : (t : List Stored) → Record t
-        ≡ cond (isLeaf k) t (gatherParts prefix (left - 1) k (gatherSelf prefix k t (drop 6 (between card from to))) (drop 6 (between card from to)))
-    unfolding gather gatherParts
-    stepped t =
-        ap (λ (m : ℕ). gather prefix m t (between card from to)) one-less
-        ∙ ap (λ (j : ℕ). cond (isLeaf j) t (gatherEach (gather prefix (left - 1)) j 0 (gatherSelf prefix j t (drop 6 (between card from to))) (recordsIn (drop 6 (between card from to)))))
-        (ap kindOf (sym e) ∙ sym (f .0))
+-- a record's kind is that of its first six bytes
+six : (x : Bytes) (m : ℕ) → take 2 (drop 4 (take (suc (suc (suc (suc (suc (suc m)))))) x)) ≡ take 2 (drop 4 x)
+six [] m = refl
+six (a ∷ []) m = refl
+six (a ∷ b ∷ []) m = refl
+six (a ∷ b ∷ c ∷ []) m = refl
+six (a ∷ b ∷ c ∷ d ∷ []) m = refl
+six (a ∷ b ∷ c ∷ d ∷ e ∷ []) m = refl
+six (a ∷ b ∷ c ∷ d ∷ e ∷ f ∷ r) m = refl
 
-    pub record-leaf : isLeaf k ≡ true → Makes card prefix words words n n Record
-    record-leaf h = makes-none card prefix words n Record (λ t. stepped t ∙ rw h)
+kind-front : (x : Bytes) (m : ℕ) → 6 ≤ m → take 2 (drop 4 (take m x)) ≡ take 2 (drop 4 x)
+kind-front x m h = let q : m ≡ suc (suc (suc (suc (suc (suc (m - 6)))))) = omega arith in rw q (six x (m - 6))
 
-    pub record-node : (k ≡ 1 → ⊥) → (k ≡ 3 → ⊥) → from + 6 ≤ to → to ≤ length card → (w : List ℕ) (r : ℕ)
-        → Makes card prefix words w n r (λ t. gatherParts prefix (left - 1) k (gatherSelf prefix k t (between card (from + 6) to)) (between card (from + 6) to)) → Makes card prefix words w n r Record
-    record-node a b o l w r m =
-        makes-same card prefix words w n r (λ t. gatherParts prefix (left - 1) k (gatherSelf prefix k t (between card (from + 6) to)) (between card (from + 6) to)) Record
-        (λ t. stepped t ∙ rw (ne-eqb k 1 a, ne-eqb k 3 b, between-drop card from to 6 l o)) m
+-- a module at a place of the card
+module _ (card : Bytes) (at : ℕ) (x : Bytes) (e : x ≡ take (length card) (drop at card)) (b : Bool) (f : b ≡ short x) where
+  there : x ≡ drop at card
+  there = tail-part card x at e
 
-    pub leaf-text : k ≡ 1 → isLeaf k ≡ true
-    leaf-text h = rw h
+  module _ (h : b ≡ false) where
+    enough : Enough x
+    enough = long-enough x (sym f ∙ h)
 
-    pub leaf-kept : k ≡ 3 → isLeaf k ≡ true
-    leaf-kept h = rw h
+    long : length x ≡ length card - at
+    long = ap length there ∙ length-drop at card
+
+    pub module-four : at + 4 ≤ length card
+    module-four = let a = enough .six in let m = long in omega arith
+
+    pub module-fits : (n : ℕ) → (n ≡ lengthOf x) × (n < 2 ^ 32) → (at + 6 ≤ at + 4 + n) × (at + 4 + n ≤ length card)
+    module-fits n l =
+        let a = enough .two in
+        let i = enough .inside in
+        let j = enough .six in
+        let k = l .0 in
+        let m = long in
+        (omega arith, omega arith)
+
+  -- the bytes of its record
+  module-is : b ≡ false → (n : ℕ) → n ≡ lengthOf x → kindOf (between card at (at + 4 + n)) ≡ kindOf x
+  module-is h n l =
+      let i = enough h .inside in
+      let j = enough h .two in
+      let e : at + 4 + n - at ≡ 4 + n = omega arith in
+      rw (e, ← there) (ap num (kind-front x (4 + n) (omega arith)))
+
+  pub module-node : (h : b ≡ false) (n k : ℕ) → (n ≡ lengthOf x) × (n < 2 ^ 32) → (k ≡ kindOf x) × (k < 65536) → (k ≡ 1 → ⊥) → (k ≡ 3 → ⊥)
+      → IsNode card at (at + 4 + n) k
+  module-node h n k l f one three = (f .0 ∙ sym (module-is h n (l .0)), rw (ne-eqb k 1 one, ne-eqb k 3 three))
+
+module _ (s : Scope) (words words₀ : List ℕ) (at left : ℕ) (w : words ≡ started words₀) where
+  abbrev Module : Table
+  Module = gathered s left at words₀
+
+  pub module-long : 65536 < length (s .card) → table 0 words ≡ Module
+  unfolding gatherModule
+  module-long h = rw (lt-ltb 65536 (length (s .card)) h, w)
+
+  module _ (small : length (s .card) ≤ 65536) (x : Bytes) (e : x ≡ take (length (s .card)) (drop at (s .card))) (b : Bool) (f : b ≡ short x) where
+    pub module-none : b ≡ true → table 0 words ≡ Module
+    unfolding gatherModule
+    module-none h = rw (le-ltb 65536 (length (s .card)) small, ← there (s .card) at x e b f, ← f, h, w)
+
+    pub module-gathered : b ≡ false → (n : ℕ) → n ≡ lengthOf x → (u : Table) → u ≡ recordAdded s left (table 0 words) at (at + 4 + n) → u ≡ Module
+    unfolding gatherModule
+    module-gathered h n l u y = y ∙ rw (le-ltb 65536 (length (s .card)) small, ← there (s .card) at x e b f, ← f, h, l, w)
+
+    -- of a Text or a Kept nothing
+    pub module-leaf : b ≡ false → (k : ℕ) → (k ≡ kindOf x) × (k < 65536) → isLeaf k ≡ true → table 0 words ≡ Module
+    module-leaf h k d g =
+        let kind-is : k ≡ kindOf (between (s .card) at (at + 4 + lengthOf x)) = d .0 ∙ sym (module-is (s .card) at x e b f h (lengthOf x) refl) in
+        module-gathered h (lengthOf x) refl (table 0 words) (leaf-left s (table 0 words) at (at + 4 + lengthOf x) left k kind-is g)

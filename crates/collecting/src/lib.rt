@@ -1,14 +1,15 @@
-// Collecting: one walk over a module's records puts every pair of name and base into the table. Functions for a record, its parts, types,
-// expressions and declarations call each other in a ring, the remaining depth falling. A record is the card's bytes from a place to another.
+// Collecting: one walk over a module's records puts every pair of name and base into the table. Functions for a body, a declaration, a function, an
+// expression, a type, and for any record and its fields, call each other in a ring, the remaining depth falling. A record, and the content of one, is the
+// card's bytes from a place to another.
+use operation::Shortening;
 ghost use mathlib.Core.Path.{_≡_};
-ghost use Prim.Native.Nat.{_+_, _-_, _*_, _^_, _≤_, _<_};
-ghost use lib.ListN.{length, take, drop};
+ghost use Prim.Native.Nat.{_+_, _≤_};
+ghost use lib.ListN.{length};
 ghost use Rattle.records.specs.Kinds.{kinds, stands};
-ghost use Rattle.factor_paths.specs.LookUp.{bare};
-ghost use Rattle.factor_paths.specs.Collects.{aType, anExpr, aDecl, visitedAs};
-ghost use Rattle.prefix.specs.Prefix.{prefixOf};
-ghost use Rattle.table.specs.Words.{Has, Makes};
-ghost use Rattle.collecting.specs.Gathers.{gatherPath, gatherName, gatherSelf, gatherField, gatherParts, gather, gathered, Again};
+ghost use Rattle.factor_paths.specs.Collects.{aType, anExpr, aDecl, holds, visitedAs};
+ghost use Rattle.prefix.specs.Prefix.{scope};
+ghost use Rattle.adding.specs.Adds.{table};
+ghost use Rattle.gathering.specs.Gathers.{IsNode, recordAdded, fieldAdded, partsAdded, wholeAdded, gathered};
 
 // Whether a kind lies from one to another.
 fn stands(from: usize, to: usize, k: usize) -> bool
@@ -20,110 +21,9 @@ fn stands(from: usize, to: usize, k: usize) -> bool
     k <= to
 }
 
-// How long a name is without a final '!'.
-fn bare_length(name: &[u8]) -> usize
-    ensures { λ r. ⌜ r ≡ length (bare (now (name .entry))) ⌝ }
-{
-    let n = name.len();
-    if n == 0 {
-        return 0;
-    }
-    let last = n - 1;
-    if name[last] == b'!' {
-        return last;
-    }
-    n
-}
-
-// The path in the content of a TypeFromPath or an ExprFromPath, from a place of the card to another.
-fn add_path(
-    card: &[u8],
-    from: usize,
-    to: usize,
-    in_expr: bool,
-    root: &[u8],
-    chain: &[usize],
-    work: &mut [u32],
-    n: usize,
-) -> usize
-    requires { ⌜ (from ≤ to) × (to ≤ length (now card)) × (length (now card) < 2 ^ 31) ⌝ }
-    ensures { λ r. ⌜ Makes (now (card .entry)) (prefixOf (now (card .entry)) (now (root .entry)) (now (chain .entry))) (now (work .entry)) (now (work .exit)) n r (λ t. gatherPath in_expr t (take (to - from) (drop from (now (card .entry))))) ⌝ }
-{
-    let c = wire::part(card, from, to - from);
-    if reader::record_kind(c) != 0x13 {
-        return n;
-    }
-    let p = reader::content(c);
-    if reader::is_short(p) {
-        return n;
-    }
-    if paths::is_self(reader::record(p)) {
-        return n;
-    }
-    let name = reader::content(reader::rest(p));
-    let base = from + 6;
-    let at = base + 10 + reader::record_length(p);
-    if in_expr {
-        return table::add(
-            card,
-            root,
-            chain,
-            work,
-            n,
-            at as u32,
-            bare_length(name) as u32,
-            base as u32,
-        );
-    }
-    table::add(
-        card,
-        root,
-        chain,
-        work,
-        n,
-        at as u32,
-        name.len() as u32,
-        base as u32,
-    )
-}
-
-// The own name of a declaration of kind k with this content.
-fn add_name(
-    card: &[u8],
-    from: usize,
-    to: usize,
-    k: usize,
-    root: &[u8],
-    chain: &[usize],
-    work: &mut [u32],
-    n: usize,
-) -> usize
-    requires { ⌜ (from ≤ to) × (to ≤ length (now card)) × (length (now card) < 2 ^ 31) ⌝ }
-    ensures { λ r. ⌜ Makes (now (card .entry)) (prefixOf (now (card .entry)) (now (root .entry)) (now (chain .entry))) (now (work .entry)) (now (work .exit)) n r (λ t. gatherName (prefixOf (now (card .entry)) (now (root .entry)) (now (chain .entry))) t k (take (to - from) (drop from (now (card .entry))))) ⌝ }
-{
-    let c = wire::part(card, from, to - from);
-    let o = fields::name_at(c, k);
-    if o == 0 {
-        return n;
-    }
-    if c.len() < o {
-        return n;
-    }
-    let name = reader::content(wire::part(c, o, c.len()));
-    table::add(
-        card,
-        root,
-        chain,
-        work,
-        n,
-        (from + o + 6) as u32,
-        name.len() as u32,
-        0,
-    )
-}
-
 // The fields in the content of a record of kind k.
 fn collect_parts(
+    op: Shortening,
     card: &[u8],
     from: usize,
     to: usize,
@@ -134,8 +34,9 @@ fn collect_parts(
     work: &mut [u32],
     n: usize,
 ) -> usize
-    requires { ⌜ (from ≤ to) × (to ≤ length (now card)) × (length (now card) < 2 ^ 31) ⌝ }
-    ensures { λ r. ⌜ Makes (now (card .entry)) (prefixOf (now (card .entry)) (now (root .entry)) (now (chain .entry))) (now (work .entry)) (now (work .exit)) n r (λ t. gatherParts (prefixOf (now (card .entry)) (now (root .entry)) (now (chain .entry))) left k t (take (to - from) (drop from (now (card .entry))))) ⌝ }
+    requires { ⌜ (from ≤ to) × (to ≤ length (now card)) × (length (now card) ≤ 65536) ⌝ }
+    ensures { λ r. ⌜ table r (now (work .exit))
+        ≡ partsAdded (scope op (now (card .entry)) (now (root .entry)) (now (chain .entry))) left k (table n (now (work .entry))) from to ⌝ }
 {
     let mut at = from;
     let mut i = 0;
@@ -146,15 +47,16 @@ fn collect_parts(
             return m;
         }
         let next = at + 4 + reader::record_length(s);
-        m = collect_field(card, at, next, k, i, left, root, chain, work, m);
+        m = collect_field(op, card, at, next, k, i, left, root, chain, work, m);
         at = next;
         i += 1;
     }
     m
 }
 
-// Field i of a record of kind k.
+// Field i of a record of kind k. Nothing is collected from a Text or a Kept, which spares the call.
 fn collect_field(
+    op: Shortening,
     card: &[u8],
     from: usize,
     to: usize,
@@ -166,16 +68,26 @@ fn collect_field(
     work: &mut [u32],
     n: usize,
 ) -> usize
-    requires { ⌜ (from + 6 ≤ to) × (to ≤ length (now card)) × (length (now card) < 2 ^ 31) ⌝ }
-    ensures { λ r. ⌜ Makes (now (card .entry)) (prefixOf (now (card .entry)) (now (root .entry)) (now (chain .entry))) (now (work .entry)) (now (work .exit)) n r (λ t. gatherField (prefixOf (now (card .entry)) (now (root .entry)) (now (chain .entry))) left k i t (take (to - from) (drop from (now (card .entry))))) ⌝ }
+    requires { ⌜ (from + 6 ≤ to) × (to ≤ length (now card)) × (length (now card) ≤ 65536) ⌝ }
+    ensures { λ r. ⌜ table r (now (work .exit))
+        ≡ fieldAdded (scope op (now (card .entry)) (now (root .entry)) (now (chain .entry))) left k i (table n (now (work .entry))) from to ⌝ }
 {
     if fields::is_entered(k, i) {
-        return collect_record(card, from, to, left, root, chain, work, n);
+        let j = reader::record_kind(wire::part(card, from, to - from));
+        if j == 1 {
+            return n;
+        }
+        if j == 3 {
+            return n;
+        }
+        return collect_record(op, card, from, to, j, left, root, chain, work, n);
     }
     n
 }
 
+// A type: the path of a TypeFromPath, and what any other holds.
 fn collect_type(
+    op: Shortening,
     card: &[u8],
     from: usize,
     to: usize,
@@ -186,16 +98,19 @@ fn collect_type(
     work: &mut [u32],
     n: usize,
 ) -> usize
-    requires { ⌜ (from ≤ to) × (to ≤ length (now card)) × (visitedAs k ≡ aType) × (length (now card) < 2 ^ 31) ⌝ }
-    ensures { λ r. ⌜ Makes (now (card .entry)) (prefixOf (now (card .entry)) (now (root .entry)) (now (chain .entry))) (now (work .entry)) (now (work .exit)) n r (λ t. gatherParts (prefixOf (now (card .entry)) (now (root .entry)) (now (chain .entry))) left k (gatherSelf (prefixOf (now (card .entry)) (now (root .entry)) (now (chain .entry))) k t (take (to - from) (drop from (now (card .entry))))) (take (to - from) (drop from (now (card .entry))))) ⌝ }
+    requires { ⌜ (from ≤ to) × (to ≤ length (now card)) × (length (now card) ≤ 65536) × (visitedAs k ≡ aType) ⌝ }
+    ensures { λ r. ⌜ table r (now (work .exit))
+        ≡ wholeAdded (scope op (now (card .entry)) (now (root .entry)) (now (chain .entry))) left k (table n (now (work .entry))) from to ⌝ }
 {
     if k == 0x2D {
-        return add_path(card, from, to, false, root, chain, work, n);
+        return visiting::add_path(op, card, from, to, false, root, chain, work, n);
     }
-    collect_parts(card, from, to, k, left, root, chain, work, n)
+    collect_parts(op, card, from, to, k, left, root, chain, work, n)
 }
 
+// An expression: the path of an ExprFromPath, and what any other holds.
 fn collect_expr(
+    op: Shortening,
     card: &[u8],
     from: usize,
     to: usize,
@@ -206,16 +121,19 @@ fn collect_expr(
     work: &mut [u32],
     n: usize,
 ) -> usize
-    requires { ⌜ (from ≤ to) × (to ≤ length (now card)) × (visitedAs k ≡ anExpr) × (length (now card) < 2 ^ 31) ⌝ }
-    ensures { λ r. ⌜ Makes (now (card .entry)) (prefixOf (now (card .entry)) (now (root .entry)) (now (chain .entry))) (now (work .entry)) (now (work .exit)) n r (λ t. gatherParts (prefixOf (now (card .entry)) (now (root .entry)) (now (chain .entry))) left k (gatherSelf (prefixOf (now (card .entry)) (now (root .entry)) (now (chain .entry))) k t (take (to - from) (drop from (now (card .entry))))) (take (to - from) (drop from (now (card .entry))))) ⌝ }
+    requires { ⌜ (from ≤ to) × (to ≤ length (now card)) × (length (now card) ≤ 65536) × (visitedAs k ≡ anExpr) ⌝ }
+    ensures { λ r. ⌜ table r (now (work .exit))
+        ≡ wholeAdded (scope op (now (card .entry)) (now (root .entry)) (now (chain .entry))) left k (table n (now (work .entry))) from to ⌝ }
 {
     if k == 0x5C {
-        return add_path(card, from, to, true, root, chain, work, n);
+        return visiting::add_path(op, card, from, to, true, root, chain, work, n);
     }
-    collect_parts(card, from, to, k, left, root, chain, work, n)
+    collect_parts(op, card, from, to, k, left, root, chain, work, n)
 }
 
+// A declaration: its own name, then what it holds; of a nested module and of a use nothing more.
 fn collect_decl(
+    op: Shortening,
     card: &[u8],
     from: usize,
     to: usize,
@@ -226,53 +144,97 @@ fn collect_decl(
     work: &mut [u32],
     n: usize,
 ) -> usize
-    requires { ⌜ (from ≤ to) × (to ≤ length (now card)) × (visitedAs k ≡ aDecl) × (length (now card) < 2 ^ 31) ⌝ }
-    ensures { λ r. ⌜ Makes (now (card .entry)) (prefixOf (now (card .entry)) (now (root .entry)) (now (chain .entry))) (now (work .entry)) (now (work .exit)) n r (λ t. gatherParts (prefixOf (now (card .entry)) (now (root .entry)) (now (chain .entry))) left k (gatherSelf (prefixOf (now (card .entry)) (now (root .entry)) (now (chain .entry))) k t (take (to - from) (drop from (now (card .entry))))) (take (to - from) (drop from (now (card .entry))))) ⌝ }
+    requires { ⌜ (from ≤ to) × (to ≤ length (now card)) × (length (now card) ≤ 65536) × (visitedAs k ≡ aDecl) ⌝ }
+    ensures { λ r. ⌜ table r (now (work .exit))
+        ≡ wholeAdded (scope op (now (card .entry)) (now (root .entry)) (now (chain .entry))) left k (table n (now (work .entry))) from to ⌝ }
 {
-    let m = add_name(card, from, to, k, root, chain, work, n);
-    collect_parts(card, from, to, k, left, root, chain, work, m)
+    let m = visiting::add_name(op, card, from, to, k, root, chain, work, n);
+    collect_parts(op, card, from, to, k, left, root, chain, work, m)
 }
 
-// One record, at most left deep.
-fn collect_record(
+// A Fn: its type parameters, formals, result and body, in the order of its fields.
+fn collect_fn(
+    op: Shortening,
     card: &[u8],
     from: usize,
     to: usize,
+    k: usize,
     left: usize,
     root: &[u8],
     chain: &[usize],
     work: &mut [u32],
     n: usize,
 ) -> usize
-    requires { ⌜ (from + 6 ≤ to) × (to ≤ length (now card)) × (length (now card) < 2 ^ 31) ⌝ }
-    ensures { λ r. ⌜ Makes (now (card .entry)) (prefixOf (now (card .entry)) (now (root .entry)) (now (chain .entry))) (now (work .entry)) (now (work .exit)) n r (λ t. gather (prefixOf (now (card .entry)) (now (root .entry)) (now (chain .entry))) left t (take (to - from) (drop from (now (card .entry))))) ⌝ }
+    requires { ⌜ (from ≤ to) × (to ≤ length (now card)) × (length (now card) ≤ 65536) × (visitedAs k ≡ holds) ⌝ }
+    ensures { λ r. ⌜ table r (now (work .exit))
+        ≡ wholeAdded (scope op (now (card .entry)) (now (root .entry)) (now (chain .entry))) left k (table n (now (work .entry))) from to ⌝ }
+{
+    collect_parts(op, card, from, to, k, left, root, chain, work, n)
+}
+
+// A List: the declarations of a module's body, the members of an Impl's, and what any other seq has.
+fn collect_body(
+    op: Shortening,
+    card: &[u8],
+    from: usize,
+    to: usize,
+    k: usize,
+    left: usize,
+    root: &[u8],
+    chain: &[usize],
+    work: &mut [u32],
+    n: usize,
+) -> usize
+    requires { ⌜ (from ≤ to) × (to ≤ length (now card)) × (length (now card) ≤ 65536) × (visitedAs k ≡ holds) ⌝ }
+    ensures { λ r. ⌜ table r (now (work .exit))
+        ≡ wholeAdded (scope op (now (card .entry)) (now (root .entry)) (now (chain .entry))) left k (table n (now (work .entry))) from to ⌝ }
+{
+    collect_parts(op, card, from, to, k, left, root, chain, work, n)
+}
+
+// One record of kind k, no Text and no Kept, at most left deep.
+fn collect_record(
+    op: Shortening,
+    card: &[u8],
+    from: usize,
+    to: usize,
+    k: usize,
+    left: usize,
+    root: &[u8],
+    chain: &[usize],
+    work: &mut [u32],
+    n: usize,
+) -> usize
+    requires { ⌜ (from + 6 ≤ to) × (to ≤ length (now card)) × (length (now card) ≤ 65536) × IsNode (now card) from to k ⌝ }
+    ensures { λ r. ⌜ table r (now (work .exit))
+        ≡ recordAdded (scope op (now (card .entry)) (now (root .entry)) (now (chain .entry))) left (table n (now (work .entry))) from to ⌝ }
 {
     if left == 0 {
         return n;
     }
-    let k = reader::record_kind(wire::part(card, from, to - from));
-    if k == 1 {
-        return n;
-    }
-    if k == 3 {
-        return n;
-    }
     let inner = from + 6;
     if stands(0x20, 0x38, k) {
-        return collect_type(card, inner, to, k, left - 1, root, chain, work, n);
+        return collect_type(op, card, inner, to, k, left - 1, root, chain, work, n);
     }
     if stands(0x40, 0x5E, k) {
-        return collect_expr(card, inner, to, k, left - 1, root, chain, work, n);
+        return collect_expr(op, card, inner, to, k, left - 1, root, chain, work, n);
     }
     if stands(0x62, 0x6A, k) {
-        return collect_decl(card, inner, to, k, left - 1, root, chain, work, n);
+        return collect_decl(op, card, inner, to, k, left - 1, root, chain, work, n);
     }
-    collect_parts(card, inner, to, k, left - 1, root, chain, work, n)
+    if k == 2 {
+        return collect_body(op, card, inner, to, k, left - 1, root, chain, work, n);
+    }
+    if k == 0x7D {
+        return collect_fn(op, card, inner, to, k, left - 1, root, chain, work, n);
+    }
+    collect_parts(op, card, inner, to, k, left - 1, root, chain, work, n)
 }
 
-// The module at a place of the card, which goes at most left deep; chain has the places of the names of the modules around it and its own.
-// The answer is how many pairs there are, as table::add's.
-pub fn collect(
+// The module at a place of the card, which goes at most left deep; chain has the places of the names of the modules around it and its own. The table is
+// started anew. The answer is how many pairs there are, as adding::add's.
+pub fn collect_module(
+    op: Shortening,
     card: &[u8],
     at: usize,
     left: usize,
@@ -280,44 +242,24 @@ pub fn collect(
     chain: &[usize],
     work: &mut [u32],
 ) -> usize
-    ensures { λ r. ⌜ (length (now (work .exit)) ≡ length (now (work .entry))) × Has (now (card .entry)) (prefixOf (now (card .entry)) (now (root .entry)) (now (chain .entry))) (now (work .exit)) r (gathered (prefixOf (now (card .entry)) (now (root .entry)) (now (chain .entry))) left (now (card .entry)) at) ⌝ }
+    ensures { λ r. ⌜ table r (now (work .exit))
+        ≡ gathered (scope op (now (card .entry)) (now (root .entry)) (now (chain .entry))) left at (now (work .entry)) ⌝ }
 {
-    if 0x80000000 <= card.len() {
+    adding::start(work);
+    if 65536 < card.len() {
         return 0;
     }
     let s = wire::part(card, at, card.len());
     if reader::is_short(s) {
         return 0;
     }
+    let k = reader::record_kind(s);
+    if k == 1 {
+        return 0;
+    }
+    if k == 3 {
+        return 0;
+    }
     let to = at + 4 + reader::record_length(s);
-    collect_record(card, at, to, left, root, chain, work, 0)
-}
-
-// Whose table words hold: that of the module at a place of the card, and how many pairs it has.
-pub struct Table {
-    pub owner: usize,
-    pub pairs: usize,
-}
-
-// The table of the module at a place. Words that hold it already, as `held` says, are left: no record is walked. So what another module took
-// is collected again only once it is needed again.
-pub fn table_of(
-    card: &[u8],
-    at: usize,
-    left: usize,
-    root: &[u8],
-    chain: &[usize],
-    work: &mut [u32],
-    held: Table,
-) -> Table
-    ensures { λ r. ⌜ (r .owner ≡ at) × (length (now (work .exit)) ≡ length (now (work .entry))) × Again (held .owner) at (now (work .entry)) (now (work .exit)) (held .pairs) (r .pairs) (Has (now (card .entry)) (prefixOf (now (card .entry)) (now (root .entry)) (now (chain .entry))) (now (work .exit)) (r .pairs) (gathered (prefixOf (now (card .entry)) (now (root .entry)) (now (chain .entry))) left (now (card .entry)) at)) ⌝ }
-{
-    if held.owner == at {
-        return held;
-    }
-    let n = collect(card, at, left, root, chain, work);
-    Table {
-        owner: at,
-        pairs: n,
-    }
+    collect_record(op, card, at, to, k, left, root, chain, work, 0)
 }

@@ -17,10 +17,12 @@ use Rattle.records.proofs.ByRow.{by-kinds, seq-node, option-node, fits-there}
 use Rattle.rast.specs.Path.{Path}
 use Rattle.rast.specs.Mod.{Mod·Fold}
 use Rattle.rast.specs.Fold.{Role, aType as roleType, anExpr as roleExpr, holds as roleHolds, other, role, visit, Fold, FoldParts, Expr·Fold}
-use Rattle.rast.specs.Visitor.{RASTTopDownVisitor, VisitType, VisitTypeParams, VisitFields, VisitFn, VisitMember, VisitBody, VisitImplMapping, VisitUse, VisitTopFn, VisitTraitDecl, VisitStructMapping, VisitModMapping, VisitMod}
+use Rattle.rast.specs.Visitor.{RASTTopDownVisitor, VisitType, VisitTypeParams, VisitFields, VisitFn, VisitMember, VisitBody, VisitImplMapping, VisitUse}
+use Rattle.rast.specs.Visitor.{VisitTopFn, VisitTraitDecl, VisitStructMapping, VisitModMapping, VisitMod}
 use Rattle.rast.proofs.Tests.{by-test, either, one-of}
 use Rattle.factor_paths.specs.Collects.{Visited, aType, anExpr, holds, visitedAs, enters, single, collects, collectsAll}
-use Rattle.factor_paths.proofs.Tidy.{typeKind, termKind, types-closed, terms-closed, by-either, at-literal, by-typeKind, by-termKind, PathIn, Paths, fits-paths}
+use Rattle.factor_paths.proofs.Tidy.{typeKind, termKind, types-closed, terms-closed, by-either, at-literal, by-typeKind, by-termKind, PathIn, Paths}
+use Rattle.factor_paths.proofs.Tidy.{fits-paths}
 use Rattle.factor_paths.proofs.Wraps.{or-left, isExpr, no-expr-role, path-role}
 
 -- at the kinds that lie in types and expressions, what is visited itself is what Fold's role says
@@ -116,7 +118,9 @@ module _ {T : Type 0} (this : RASTTopDownVisitor T) (SelfPath : Path) where
 
   -- it does not matter that Fold has f for an expression
   abbrev Agrees : (T → Record → T) → Role → Type 0
-  Agrees f ρ = (acc : T) (r : Record) (parts : T → T) → visit f (this .VisitTypeSingle) ρ acc r parts ≡ visit (this .VisitExprSingle) (this .VisitTypeSingle) ρ acc r parts
+  Agrees f ρ =
+      (acc : T) (r : Record) (parts : T → T)
+      → visit f (this .VisitTypeSingle) ρ acc r parts ≡ visit (this .VisitExprSingle) (this .VisitTypeSingle) ρ acc r parts
 
   -- Fold over kinds q, which are kinds in types and expressions
   module _ (q : ℕ → Bool) (terms : (k : ℕ) → q k ≡ true → termKind k ≡ true) (f : T → Record → T) (agrees : (k : ℕ) → q k ≡ true → Agrees f (role k)) where
@@ -270,7 +274,8 @@ module _ {T : Type 0} (this : RASTTopDownVisitor T) (SelfPath : Path) where
   unfolding rowOf collects nth VisitFn VisitType
   fn-collects =
       by-kinds (Is _) 0x7D 0 (lit≤ tt)
-      (λ n hn ps hps fs hfs t ht e he acc. txt n hn acc ▹ typeParams-collect ps hps ▹ seq-collects (one 0x7E) formal-collects fs hfs ▹ option-collects type type-collects t ht ▹ option-collects expr expr-collects e he)
+      (λ n hn ps hps fs hfs t ht e he acc. txt n hn acc ▹ typeParams-collect ps hps ▹ seq-collects (one 0x7E) formal-collects fs hfs ▹ option-collects type
+      type-collects t ht ▹ option-collects expr expr-collects e he)
 
   member-collects : At (kinds 0x83 0x86) (VisitMember this)
   unfolding rowOf collects nth VisitMember
@@ -300,7 +305,8 @@ module _ {T : Type 0} (this : RASTTopDownVisitor T) (SelfPath : Path) where
   unfolding rowOf collects nth VisitTraitDecl VisitType
   trait-collects =
       by-kinds (Is _) 0x7B 0 (lit≤ tt)
-      (λ d hd a ha ps hps t ht ts hts ms hms acc. txt d hd acc ▹ kpt a ha ▹ typeParams-collect ps hps ▹ type-collects t ht ▹ seq-collects type type-collects ts hts ▹ body-collects ms hms)
+      (λ d hd a ha ps hps t ht ts hts ms hms acc. txt d hd acc ▹ kpt a ha ▹ typeParams-collect ps hps ▹ type-collects t ht ▹ seq-collects type type-collects ts
+      hts ▹ body-collects ms hms)
 
   -- a Struct's fields are not visited
   struct-collects : At (one 0x70) (VisitStructMapping this)
@@ -309,11 +315,13 @@ module _ {T : Type 0} (this : RASTTopDownVisitor T) (SelfPath : Path) where
 
   typeSynonym-collects : At (one 0x71) (λ acc r. VisitType this (VisitTypeParams this acc (field 3 r)) (field 4 r))
   unfolding rowOf collects nth
-  typeSynonym-collects = by-kinds (Is _) 0x71 0 (lit≤ tt) (λ d hd a ha n hn ps hps t ht acc. txt d hd acc ▹ kpt a ha ▹ txt n hn ▹ typeParams-collect ps hps ▹ type-collects t ht)
+  typeSynonym-collects =
+      by-kinds (Is _) 0x71 0 (lit≤ tt) (λ d hd a ha n hn ps hps t ht acc. txt d hd acc ▹ kpt a ha ▹ txt n hn ▹ typeParams-collect ps hps ▹ type-collects t ht)
 
   constant-collects : At (one 0x72) (λ acc r. VisitExpr (VisitType this acc (field 3 r)) (field 4 r))
   unfolding rowOf collects nth
-  constant-collects = by-kinds (Is _) 0x72 0 (lit≤ tt) (λ d hd a ha n hn t ht e he acc. txt d hd acc ▹ kpt a ha ▹ txt n hn ▹ type-collects t ht ▹ expr-collects e he)
+  constant-collects =
+      by-kinds (Is _) 0x72 0 (lit≤ tt) (λ d hd a ha n hn t ht e he acc. txt d hd acc ▹ kpt a ha ▹ txt n hn ▹ type-collects t ht ▹ expr-collects e he)
 
   enumCase-collects : At (one 0x74) (λ acc r. VisitFields this acc (field 2 r))
   unfolding rowOf collects nth
@@ -321,7 +329,9 @@ module _ {T : Type 0} (this : RASTTopDownVisitor T) (SelfPath : Path) where
 
   enum-collects : At (one 0x73) (λ acc r. FoldLeft (λ acc r. VisitFields this acc (field 2 r)) (VisitTypeParams this acc (field 3 r)) (children (field 4 r)))
   unfolding rowOf collects nth
-  enum-collects = by-kinds (Is _) 0x73 0 (lit≤ tt) (λ d hd a ha n hn ps hps cs hcs acc. txt d hd acc ▹ kpt a ha ▹ txt n hn ▹ typeParams-collect ps hps ▹ seq-collects (one 0x74) enumCase-collects cs hcs)
+  enum-collects =
+      by-kinds (Is _) 0x73 0 (lit≤ tt) (λ d hd a ha n hn ps hps cs hcs acc. txt d hd acc ▹ kpt a ha ▹ txt n hn ▹ typeParams-collect ps hps ▹ seq-collects
+      (one 0x74) enumCase-collects cs hcs)
 
   -- a declaration itself, then what it holds; a module and a use are not entered
   decl-collects : At (kinds 0x62 0x6A) (λ acc d. VisitModMapping this acc d SelfPath)

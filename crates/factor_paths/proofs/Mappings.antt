@@ -4,6 +4,7 @@ use mathlib.Core.List.{List, [], _∷_, _++_}
 use mathlib.Core.Bool.{Bool, true, false, cond, or-true}
 use mathlib.Core.Option.{some}
 use Rattle.rast.specs.Path.{Name, Path, whether}
+use Rattle.rast.specs.Final.{isAmong}
 use Rattle.rast.specs.Operation.{Operation}
 use Rattle.rast.proofs.Names.{Names, paths}
 use Rattle.rast.proofs.Tests.{by-test, by-option, one-of, there-is}
@@ -77,7 +78,7 @@ module _ (op : Operation) (N : Names op) where
 
     -- and is so once it is added to the name
     pub added-holds : (m : Mapping) (j : Name) (k : Name) → op .sameName j k ≡ true → holds op S k (Add op m j S) ≡ true
-    unfolding _among_
+    unfolding isAmong
     added-holds m j k t =
         rw (add-get m j S k, t)
         (by-option (get op j (m .provenance)) (λ o. rw (o, paths N .reflexive S))

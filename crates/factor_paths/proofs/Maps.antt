@@ -6,6 +6,7 @@ use mathlib.Core.Option.{none, some, Option·some-injective}
 use Prim.Native.Nat.{ℕ}
 use native.Mathlib.Omega.{arith}
 use Rattle.rast.specs.Path.{Name, Path, whether}
+use Rattle.rast.specs.Final.{isAmong}
 use Rattle.rast.specs.Operation.{Operation}
 use Rattle.rast.proofs.Names.{Names, turned, alike, alike-right, paths}
 use Rattle.rast.proofs.Tests.{by-test, by-option, one-of}
@@ -77,12 +78,12 @@ module _ (op : Operation) (N : Names op) where
 
   -- the same path is among the same
   pub among-same : (p q : Path) (ps : List Path) → equal op p q ≡ true → _among_ op p ps ≡ _among_ op q ps
-  unfolding _among_
+  unfolding isAmong
   among-same p q [] h = refl
   among-same p q (r ∷ rs) h = rw (alike (paths N) p q r h, among-same p q rs h)
 
   among-last : (q p : Path) (ps : List Path) → _among_ op q (ps ++ (p ∷ [])) ≡ (_among_ op q ps || equal op q p)
-  unfolding _among_
+  unfolding isAmong
   among-last q p [] = or-false (equal op q p)
   among-last q p (r ∷ rs) = rw (among-last q p rs) (sym (or-assoc (equal op q r) (_among_ op q rs) (equal op q p)))
 

@@ -34,7 +34,8 @@ fold-snoc g nil acc = sym (append-nil acc)
 fold-snoc g (r ▸ c) acc = fold-snoc g c (acc ▸▸ (g r ▸ nil)) ∙ append-assoc acc (g r ▸ nil) (mapAll g c)
 
 module _ (op : Operation) (f : Record → Path → Record) where
-  decls-walk : (rep : FinalReplacement) (SelfPath : Path) (c : Records) → FitsAll c (any (kinds 0x62 0x6A)) → mapAll (λ d. ReplaceModDecl op (PathSimplifier op f rep) d SelfPath) c ≡ mapAll (walkDecl op rep f SelfPath) c
+  decls-walk : (rep : FinalReplacement) (SelfPath : Path) (c : Records) → FitsAll c (any (kinds 0x62 0x6A))
+      → mapAll (λ d. ReplaceModDecl op (PathSimplifier op f rep) d SelfPath) c ≡ mapAll (walkDecl op rep f SelfPath) c
   unfolding mapAll
   decls-walk rep SelfPath =
       by-seq (λ d. ReplaceModDecl op (PathSimplifier op f rep) d SelfPath ≡ walkDecl op rep f SelfPath d)
@@ -43,10 +44,12 @@ module _ (op : Operation) (f : Record → Path → Record) where
 
   -- ReplaceMod of a Mod, by its fields
   mod-walk : (rep : FinalReplacement) (SelfPath : Path) (d a n : Record) (c : Records) → FitsAll c (any (kinds 0x62 0x6A)) →
-      ReplaceMod op (PathSimplifier op f rep) (node 0x60 (d ▸ a ▸ n ▸ node 0x02 c ▸ nil)) SelfPath ≡ node 0x60 (d ▸ a ▸ n ▸ node 0x02 (mapAll (walkDecl op rep f SelfPath) c) ▸ nil)
+      ReplaceMod op (PathSimplifier op f rep) (node 0x60 (d ▸ a ▸ n ▸ node 0x02 c ▸ nil)) SelfPath
+      ≡ node 0x60 (d ▸ a ▸ n ▸ node 0x02 (mapAll (walkDecl op rep f SelfPath) c) ▸ nil)
   unfolding ReplaceMod Mod·Fold setNth nth _▸▸_
   mod-walk rep SelfPath d a n c h =
-      ap (λ b. node 0x60 (d ▸ a ▸ n ▸ node 0x02 b ▸ nil)) (fold-snoc (λ d. ReplaceModDecl op (PathSimplifier op f rep) d SelfPath) c nil ∙ decls-walk rep SelfPath c h)
+      ap (λ b. node 0x60 (d ▸ a ▸ n ▸ node 0x02 b ▸ nil)) (fold-snoc (λ d. ReplaceModDecl op (PathSimplifier op f rep) d SelfPath) c nil ∙ decls-walk rep
+      SelfPath c h)
 
 -- a Mod by its fields: docString, attributes, name and the declarations of its body
 pub record ModFields (m : Record) : Type 0 where
@@ -80,13 +83,16 @@ mod-fields =
 -- THE LAW: applyPrefix of a Mod is the Mod with its uses ahead of its declarations walked
 pub module-walk : (op : Operation) (n : ℕ) (SelfPath : Path) (m : Record) (h : ModFields m) →
     applyPrefix op (suc n) m SelfPath
-    ≡ node 0x60 (h .doc ▸ h .attributes ▸ h .named ▸ node 0x02 (imports op m SelfPath ▸▸ mapAll (walkDecl op (pathsToRemove op m SelfPath) (applyPrefix op n) SelfPath) (h .body)) ▸ nil)
+    ≡ node 0x60 (h .doc ▸ h .attributes ▸ h .named ▸ node 0x02 (imports op m SelfPath ▸▸ mapAll
+    (walkDecl op (pathsToRemove op m SelfPath) (applyPrefix op n) SelfPath) (h .body)) ▸ nil)
 unfolding applyPrefix setNth
 module-walk op n SelfPath m h =
     subst (λ (q : Record). applyPrefix op (suc n) q SelfPath
-    ≡ node 0x60 (h .doc ▸ h .attributes ▸ h .named ▸ node 0x02 (imports op q SelfPath ▸▸ mapAll (walkDecl op (pathsToRemove op q SelfPath) (applyPrefix op n) SelfPath) (h .body)) ▸ nil))
+    ≡ node 0x60 (h .doc ▸ h .attributes ▸ h .named ▸ node 0x02 (imports op q SelfPath ▸▸ mapAll
+    (walkDecl op (pathsToRemove op q SelfPath) (applyPrefix op n) SelfPath) (h .body)) ▸ nil))
     (sym (h .is-mod))
-    (ap (update 3 (λ body. put (imports op is SelfPath ▸▸ children body) body)) (mod-walk op (applyPrefix op n) (pathsToRemove op is SelfPath) SelfPath (h .doc) (h .attributes) (h .named) (h .body) (h .body-fits)))
+    (ap (update 3 (λ body. put (imports op is SelfPath ▸▸ children body) body))
+    (mod-walk op (applyPrefix op n) (pathsToRemove op is SelfPath) SelfPath (h .doc) (h .attributes) (h .named) (h .body) (h .body-fits)))
   where
     is : Record
     is = node 0x60 (h .doc ▸ h .attributes ▸ h .named ▸ node 0x02 (h .body) ▸ nil)

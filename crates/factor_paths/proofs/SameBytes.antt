@@ -2,7 +2,8 @@
 use mathlib.Core.Path.{_≡_, ap, subst}
 use mathlib.Core.Bool.{true}
 use Rattle.records.specs.Record.{encode}
-use Rattle.records.proofs.Tree.{Canonical, encode-injective}
+use Rattle.records.specs.Canonical.{Canonical}
+use Rattle.records.proofs.Tree.{encode-injective}
 use Rattle.rast.specs.Path.{Path}
 use Rattle.rast.specs.Operation.{upstream}
 use Rattle.rast.proofs.Names.{paths, upstream-names, same-equal}

@@ -1,23 +1,25 @@
 -- What the pass makes of a module that fits is shaped, and so can be read back. Assumes nothing.
 use mathlib.Core.Path.{_≡_, refl}
 use mathlib.Core.List.{List, [], _∷_, _++_}
-use mathlib.Core.Bool.{Bool, false, _&&_, _||_}
+use mathlib.Core.Bool.{Bool, false, _&&_}
 use Prim.Native.Nat.{ℕ, zero, suc, _^_, _<_}
 use lib.ListN.{length}
-use lib.Dec.{eqb, leb, lit<}
+use lib.Dec.{leb, lit<}
 use Rattle.records.specs.Record.{Record, Records, leaf, node, nil, _▸_, is, deep, encode, tree, setNth, children}
 use Rattle.records.specs.Kinds.{kinds, one, mod′, these, rowOf, contentAt}
 use Rattle.records.proofs.Fits.{Fits}
-use Rattle.records.proofs.Tree.{Canonical, tree-encode}
+use Rattle.records.specs.Canonical.{Canonical}
+use Rattle.records.proofs.Tree.{tree-encode}
 use Rattle.records.proofs.Run.{_⨾_}
 use Rattle.records.proofs.Leaves.{NodeAt, node-at, these-no-bytes}
 use Rattle.records.proofs.ByRow.{by-row, by-kind}
 use Rattle.records.proofs.Shape.{Shaped, ShapedAll, shaped-below, text-shaped, append-shaped, map-shaped, fits-shaped, shaped-canonical}
 use Rattle.rast.specs.Path.{Name, Path, MSel, «dafny_runtime», selected}
-use Rattle.rast.specs.Operation.{Operation, nested}
+use Rattle.rast.specs.Operation.{Operation, entering, nested}
 use Rattle.rast.specs.Mod.{nameOf}
+use Rattle.rast.proofs.Chosen.{Each, Chooses}
 use Rattle.rast.proofs.Tests.{by-test, by-option, one-of, whichever}
-use Rattle.factor_paths.specs.Mapping.{Provenance, Mapping, FinalReplacement, UniqueElementOf, equal, get, _among_, include, Add, ToFinalReplacement, ToUseStatements}
+use Rattle.factor_paths.specs.Mapping.{Provenance, Mapping, FinalReplacement, equal, get, _among_, include, Add, ToFinalReplacement, ToUseStatements}
 use Rattle.factor_paths.specs.PathsVisitor.{marked, unmarked}
 use Rattle.factor_paths.specs.Apply.{Identifier, replaces, ReplaceExprSingle, mappings, pathsToRemove, imports, applyPrefix, apply}
 use Rattle.factor_paths.specs.Walk.{Step, aType, anExpr, aFn, left, holds, stepOf, deeper, synonyms, wrap, stepped, walk, walkAll, walkFn, walkDecl}
@@ -25,7 +27,7 @@ use Rattle.factor_paths.proofs.Maps.{Held, set-held, get-held}
 use Rattle.factor_paths.proofs.Visits.{mappings-keep-in}
 use Rattle.factor_paths.proofs.Modules.{mod-fields, module-walk, extern-walk}
 
--- a name selected from a shaped path is a shaped path; upstream enters a module so
+-- a name selected from a shaped path is a shaped path
 pub selected-shaped : (p : Path) (n : Name) → Shaped p → Shaped (MSel p n)
 unfolding Shaped
 selected-shaped p n h = (refl, lit< tt, h ⨾ text-shaped n ⨾ tt)
@@ -35,19 +37,13 @@ unfolding Shaped
 runtime-shaped = (refl, lit< tt, (refl, lit< tt, tt) ⨾ (refl, lit< tt) ⨾ tt)
 
 -- all of a name's paths are shaped
-unfoldable pub ShapedPaths : List Path → Type 0
-ShapedPaths [] = Unit {0}
-ShapedPaths (p ∷ ps) = Shaped p × ShapedPaths ps
+abbrev pub ShapedPaths : List Path → Type 0
+ShapedPaths ps = Each Shaped ps
 
 last-shaped : (ps : List Path) (p : Path) → ShapedPaths ps → Shaped p → ShapedPaths (ps ++ (p ∷ []))
-unfolding ShapedPaths
+unfolding Each
 last-shaped [] p h s = (s, tt)
 last-shaped (q ∷ ps) p h s = (h .0, last-shaped ps p (h .1) s)
-
-unique-shaped : (ps : List Path) → ShapedPaths ps → Shaped (UniqueElementOf ps)
-unfolding ShapedPaths
-unique-shaped [] h = runtime-shaped
-unique-shaped (p ∷ ps) h = h .0
 
 identifier-shaped : (n : Name) → Shaped (Identifier n)
 unfolding Shaped
@@ -60,7 +56,7 @@ synonyms-shaped n (suc w) r h = (refl, lit< tt, (refl, lit< tt, text-shaped n �
 
 module _ (op : Operation) where
   add-shaped : (m : Mapping) (k : Name) (p : Path) → Shaped p → Held ShapedPaths (m .provenance) → Held ShapedPaths (Add op m k p .provenance)
-  unfolding Add ShapedPaths
+  unfolding Add Each
   add-shaped m k p s h =
       by-option (get op k (m .provenance))
       (λ g. rw g (set-held op ShapedPaths k (p ∷ []) (m .provenance) (s, tt) h))
@@ -73,13 +69,13 @@ module _ (op : Operation) where
   mappings-shaped m SelfPath a b = mappings-keep-in op shaped-below (λ m. Held ShapedPaths (m .provenance)) add-shaped m SelfPath a b tt
 
   -- the paths chosen among shaped ones are shaped
-  pub final-shaped : (es : Provenance) (SelfPath : Path) → Shaped SelfPath → Held ShapedPaths es → Held Shaped (ToFinalReplacement op es SelfPath)
+  pub final-shaped : Chooses op → (es : Provenance) (SelfPath : Path) → Shaped SelfPath → Held ShapedPaths es → Held Shaped (ToFinalReplacement op es SelfPath)
   unfolding ToFinalReplacement Held
-  final-shaped [] SelfPath s h = tt
-  final-shaped (e ∷ es) SelfPath s h =
-      one-of (Held Shaped) (eqb (length (e .held)) 1 || _among_ op SelfPath (e .held) || _among_ op «dafny_runtime» (e .held))
-      (one-of Shaped (eqb (length (e .held)) 1) (unique-shaped (e .held) (h .0)) (one-of Shaped (_among_ op SelfPath (e .held)) s runtime-shaped), final-shaped es SelfPath s (h .1))
-      (final-shaped es SelfPath s (h .1))
+  final-shaped C [] SelfPath s h = tt
+  final-shaped C (e ∷ es) SelfPath s h =
+      let others = final-shaped C es SelfPath s (h .1) in
+      by-option (op .chosenBase SelfPath (e .held)) (λ g. rw g others)
+      (λ q g. rw g (C .kept Shaped SelfPath (e .held) q s runtime-shaped (h .0) g, others))
 
   uses-shaped : (ks : List Name) (r : FinalReplacement) (S : Path) → Held Shaped r → ShapedAll (ToUseStatements op ks r S)
   unfolding ToUseStatements Shaped
@@ -87,13 +83,21 @@ module _ (op : Operation) where
   uses-shaped (k ∷ ks) r S h =
       let others = uses-shaped ks r S h in
       by-option (get op k r) (λ g. rw g others)
-      (λ q g. rw g (one-of ShapedAll (equal op q S) others ((refl, lit< tt, (refl, lit< tt, (refl, lit< tt) ⨾ selected-shaped q k (get-held op Shaped k q r h g) ⨾ tt) ⨾ tt), others)))
+      (λ q g. rw g (one-of ShapedAll (equal op q S) others (
+        (
+          refl,
+          lit< tt,
+          (refl, lit< tt, (refl, lit< tt) ⨾ selected-shaped q k (get-held op Shaped k q r h g) ⨾ tt) ⨾ tt,
+        ),
+        others,
+      )))
 
   -- the uses put ahead of a shaped module's body are shaped
-  pub imports-shaped : (m : Record) (SelfPath : Path) → Shaped m → Shaped SelfPath → ShapedAll (imports op m SelfPath)
+  pub imports-shaped : Chooses op → (m : Record) (SelfPath : Path) → Shaped m → Shaped SelfPath → ShapedAll (imports op m SelfPath)
   unfolding imports pathsToRemove
-  imports-shaped m SelfPath a b =
-      uses-shaped (mappings op m SelfPath .keys) (pathsToRemove op m SelfPath) SelfPath (final-shaped (mappings op m SelfPath .provenance) SelfPath b (mappings-shaped m SelfPath a b))
+  imports-shaped C m SelfPath a b =
+      uses-shaped (mappings op m SelfPath .keys) (pathsToRemove op m SelfPath) SelfPath
+      (final-shaped C (mappings op m SelfPath .provenance) SelfPath b (mappings-shaped m SelfPath a b))
 
   module _ (rep : FinalReplacement) where
     wrap-shaped : (w : ℕ) (t : Record) → Shaped t → Shaped (wrap op rep w t)
@@ -137,18 +141,23 @@ module _ (op : Operation) where
       walkFn-shaped i (r ▸ c) h = (walk-shaped (leb 2 i && op .walksAgain) 1 r (h .0), walkFn-shaped (suc i) c (h .1))
 
   -- a Mod, if each of its declarations is
-  module-shaped : (n : ℕ) (m : Record) (SelfPath : Path) → Shaped SelfPath → ((d : Record) → Fits d (kinds 0x62 0x6A) → Shaped (walkDecl op (pathsToRemove op m SelfPath) (applyPrefix op n) SelfPath d))
+  module-shaped : Chooses op → (n : ℕ) (m : Record) (SelfPath : Path) → Shaped SelfPath
+      → ((d : Record) → Fits d (kinds 0x62 0x6A) → Shaped (walkDecl op (pathsToRemove op m SelfPath) (applyPrefix op n) SelfPath d))
       → Fits m (one 0x60) → Shaped (applyPrefix op (suc n) m SelfPath)
   unfolding Shaped
-  module-shaped n m SelfPath s each f =
+  module-shaped C n m SelfPath s each f =
       let h = mod-fields m f in
       let a = fits-shaped m (one 0x60) refl f in
       let b : Shaped (node 0x60 (h .doc ▸ h .attributes ▸ h .named ▸ node 0x02 (h .body) ▸ nil)) = rw (h .is-mod) at a in
-      let body = append-shaped (imports op m SelfPath) _ (imports-shaped m SelfPath a s) (map-shaped (kinds 0x62 0x6A) _ each (h .body) (h .body-fits)) in
+      let body = append-shaped (imports op m SelfPath) _ (imports-shaped C m SelfPath a s) (map-shaped (kinds 0x62 0x6A) _ each (h .body) (h .body-fits)) in
       rw (module-walk op n SelfPath m h) (refl, lit< tt, b .2 .0 ⨾ b .2 .1 .0 ⨾ b .2 .1 .1 .0 ⨾ (refl, lit< tt, body) ⨾ tt)
 
-  -- where entering a module keeps a path shaped, the pass keeps a module that fits shaped
-  module _ (enters : (p : Path) (n : Name) → Shaped p → Shaped (op .entering p n)) where
+  -- entering a module keeps a path shaped
+  entering-shaped : (p : Path) (n : Name) → Shaped p → Shaped (entering op p n)
+  entering-shaped p n h = one-of Shaped (op .namesAgain) (selected-shaped p n h) h
+
+  -- the pass keeps a module that fits shaped
+  module _ (C : Chooses op) where
     -- a declaration, if f keeps modules that fit shaped
     decl-shaped : (rep : FinalReplacement) (f : Record → Path → Record) (SelfPath : Path) → Shaped SelfPath
         → ((m : Record) (p : Path) → Fits m mod′ → Shaped p → Shaped (f m p)) → (d : Record) → Fits d (kinds 0x62 0x6A) → Shaped (walkDecl op rep f SelfPath d)
@@ -157,7 +166,8 @@ module _ (op : Operation) where
         by-test (is 0x62 d)
         (λ t. let h : NodeAt d 0x62 (these (mod′ ∷ [])) = node-at d (kinds 0x62 0x6A) 0x62 (these (mod′ ∷ [])) t refl (these-no-bytes (mod′ ∷ [])) fit in
         let g : Record → Record = λ m. f m (nested op SelfPath (nameOf m)) in
-        rw (t, h .is-node) (by-row (mod′ ∷ []) (λ c. Shaped (node 0x62 (setNth 0 g c))) (λ m fm. (refl, lit< tt, go m _ fm (enters _ _ (selected-shaped SelfPath (nameOf m) s)) ⨾ tt)) (children d) (h .fits)))
+        rw (t, h .is-node) (by-row (mod′ ∷ []) (λ c. Shaped (node 0x62 (setNth 0 g c)))
+        (λ m fm. (refl, lit< tt, go m _ fm (entering-shaped _ _ (selected-shaped SelfPath (nameOf m) s)) ⨾ tt)) (children d) (h .fits)))
         (λ t. rw t (walk-shaped rep false 1 d (fits-shaped d (kinds 0x62 0x6A) refl fit)))
 
     -- applyPrefix of a module that fits is shaped
@@ -165,7 +175,7 @@ module _ (op : Operation) where
     applyPrefix-shaped zero m SelfPath f s = unfold applyPrefix in fits-shaped m mod′ refl f
     applyPrefix-shaped (suc n) m SelfPath f s =
         by-kind 0x60 1 m
-        (module-shaped n m SelfPath s (decl-shaped (pathsToRemove op m SelfPath) (applyPrefix op n) SelfPath s (applyPrefix-shaped n))
+        (module-shaped C n m SelfPath s (decl-shaped (pathsToRemove op m SelfPath) (applyPrefix op n) SelfPath s (applyPrefix-shaped n))
         ⨾ (λ e. rw (extern-walk op (suc n) SelfPath m e) (fits-shaped m mod′ refl f)))
         f
 
@@ -179,5 +189,6 @@ module _ (op : Operation) where
     apply-canonical root m f s = shaped-canonical (apply op root m) (apply-shaped root m f s)
 
     -- and so its bytes are read back as it
-    pub apply-read : (root : Path) (m : Record) → Fits m mod′ → Shaped root → length (encode (apply op root m)) < 2 ^ 32 → tree (encode (apply op root m)) ≡ apply op root m
+    pub apply-read : (root : Path) (m : Record) → Fits m mod′ → Shaped root → length (encode (apply op root m)) < 2 ^ 32
+        → tree (encode (apply op root m)) ≡ apply op root m
     apply-read root m f s l = tree-encode (apply op root m) (apply-canonical root m f s l)

@@ -1,4 +1,5 @@
--- What a tree that fits a place says to the walks: its path types and path expressions hold one path, and which kinds lie in types, expressions and declarations. Assumes nothing.
+-- What a tree that fits a place says to the walks: its path types and path expressions hold one path, and which kinds lie in types, expressions and
+-- declarations. Assumes nothing.
 use mathlib.Core.Path.{_≡_, refl, ap, sym, subst, _∙_}
 use mathlib.Core.List.{[], _∷_}
 use mathlib.Core.Bool.{Bool, true, false, not, _&&_, _||_}
@@ -38,7 +39,8 @@ pub by-either : {C : Type 0} (a b : Bool) → a || b ≡ true → (a ≡ true �
 by-either true b e f g = f refl
 by-either false b e f g = g e
 
--- to show something of the kinds that lie in types, or in types and expressions: types and expressions are known by their place alone, so that these runs need not be written out
+-- to show something of the kinds that lie in types, or in types and expressions: types and expressions are known by their place alone, so that these runs need
+-- not be written out
 module _ (P : ℕ → Type 0) where
   pub at-literal : (k₀ : ℕ) → P k₀ → (k : ℕ) → eqb k k₀ ≡ true → P k
   at-literal k₀ h k e = subst P (sym (eqb-true k k₀ e)) h
@@ -54,7 +56,8 @@ module _ (P : ℕ → Type 0) where
   pub by-termKind : ((k : ℕ) → typeKind k ≡ true → P k) → ((k : ℕ) → stands expr k ≡ true → P k) → P 0x81 → P 0x82 → (k : ℕ) → termKind k ≡ true → P k
   by-termKind types exprs matchCase assign k e =
       by-either (typeKind k || stands expr k || eqb k 0x81) (eqb k 0x82) e
-      (λ e. by-either (typeKind k || stands expr k) (eqb k 0x81) e (λ e. by-either (typeKind k) (stands expr k) e (types k) (exprs k)) (at-literal 0x81 matchCase k))
+      (λ e. by-either (typeKind k || stands expr k) (eqb k 0x81) e (λ e. by-either (typeKind k) (stands expr k) e (types k) (exprs k))
+      (at-literal 0x81 matchCase k))
       (at-literal 0x82 assign k)
 
 -- what a path type or a path expression holds: one record of a path's kind, spelled as MSel spells it where it selects a name

@@ -14,6 +14,7 @@ use Rattle.rast.specs.Mod.{Mod·Fold}
 use Rattle.rast.specs.Visitor.{VisitModMapping, VisitMod}
 use Rattle.rast.proofs.Tests.{by-test, by-option, there-is}
 use Rattle.rast.proofs.Names.{Names, turned, paths, selected-same}
+use Rattle.rast.proofs.Chosen.{Chooses}
 use Rattle.rast.proofs.Keeps.{modules-keep, VisitModMapping-keeps}
 use Rattle.factor_paths.specs.Mapping.{Entry, Mapping, noMapping, Add, FinalReplacement, equal, useDecl, get, ToUseStatements}
 use Rattle.factor_paths.specs.PathsVisitor.{marked, VisitModDeclSingle, PathsVisitor}
@@ -132,13 +133,13 @@ module _ (op : Operation) where
         (λ k i t. by-test (op .sameName k n) (λ u. get-same op N k n es u ∙ a .0) (λ u. later k (f k (rw u at i) t))))))
 
     -- the names that the uses bear are pairwise different, and none is a name of one of the module's own declarations
-    pub imports-different : (m : Record) (SelfPath : Path) → different op (own op m SelfPath) (namesBorne (imports op m SelfPath)) ≡ true
+    pub imports-different : Chooses op → (m : Record) (SelfPath : Path) → different op (own op m SelfPath) (namesBorne (imports op m SelfPath)) ≡ true
     unfolding imports pathsToRemove
-    imports-different m SelfPath =
+    imports-different C m SelfPath =
         let good = mappings-good op N m SelfPath in
         rw (← good .named)
         (bear-different (pathsToRemove op m SelfPath) SelfPath (mappings op m SelfPath .provenance) (good .apart) (own op m SelfPath)
-        (λ k h t. absurd (true≢false (sym (final-self op N k (mappings op m SelfPath .provenance) SelfPath (good .apart) (owned SelfPath m k h)) ∙ t))))
+        (λ k h t. absurd (true≢false (sym (final-self op N C k (mappings op m SelfPath .provenance) SelfPath (good .apart) (owned SelfPath m k h)) ∙ t))))
 
 -- names that are the same end alike in '!'
 abbrev pub Marks : Operation → Type 0
@@ -155,6 +156,7 @@ unmarked-has op alike n (m ∷ ms) h u =
     by-test (op .sameName n m) (λ t. alike n m t ∙ not-true (marked m) (v .0)) (λ t. unmarked-has op alike n ms (rw t at h) (v .1))
 
 -- a name that is replaced does not end in '!' where no collected name does
-pub replaced-unmarked : (op : Operation) → Names op → Marks op → (m : Record) (SelfPath : Path) (n : Name) (b : Path) → replaces op (pathsToRemove op m SelfPath) n b ≡ true
+pub replaced-unmarked : (op : Operation) → Names op → Marks op → (m : Record) (SelfPath : Path) (n : Name) (b : Path)
+    → replaces op (pathsToRemove op m SelfPath) n b ≡ true
     → unmarkedAll (collected op m SelfPath) ≡ true → marked n ≡ false
 replaced-unmarked op N alike m SelfPath n b h = unmarked-has op alike n (collected op m SelfPath) (replaced-collected op N m SelfPath n b h)

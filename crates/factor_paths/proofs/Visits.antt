@@ -38,7 +38,8 @@ module _ (op : Operation) where
         r))))))))
 
   -- where something hereditary holds of what is visited, adding need keep P only for paths of which it holds
-  module _ {S : Record → Type 0} {SA : Records → Type 0} (H : Hereditary S SA) (P : Mapping → Type 0) (h : (m : Mapping) (k : Name) (p : Path) → S p → P m → P (Add op m k p)) where
+  module _ {S : Record → Type 0} {SA : Records → Type 0} (H : Hereditary S SA) (P : Mapping → Type 0)
+      (h : (m : Mapping) (k : Name) (p : Path) → S p → P m → P (Add op m k p)) where
     selected-keeps : (k : ℕ) (r : Record) (name : Selected → Name) (m : Mapping) → S r → P m
         → P (whether (selected k r) m (λ s. cond (equal op (s .base) Self) m (Add op m (name s) (s .base))))
     selected-keeps k r name m a p =

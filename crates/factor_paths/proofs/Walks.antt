@@ -13,7 +13,9 @@ use Rattle.records.proofs.ByRow.{Kinds, by-kinds, by-seq, seq-node, option-node
 use Rattle.rast.specs.Path.{Path}
 use Rattle.rast.specs.Operation.{Operation}
 use Rattle.rast.specs.Replace.{Replace}
-use Rattle.rast.specs.Replacer.{RASTBottomUpReplacer, ReplaceType, ReplaceExpr, ReplaceFields, ReplaceTypeParams, ReplaceFn, ReplaceImplMember, ReplaceBody, ReplaceUse, ReplaceTopFn, ReplaceTrait, ReplaceImplDecl, ReplaceEnumCase, ReplaceEnum, ReplaceConst, ReplaceTypeDecl, ReplaceStruct, ReplaceModDecl}
+use Rattle.rast.specs.Replacer.{RASTBottomUpReplacer, ReplaceType, ReplaceExpr, ReplaceFields, ReplaceTypeParams, ReplaceFn, ReplaceImplMember, ReplaceBody}
+use Rattle.rast.specs.Replacer.{ReplaceUse, ReplaceTopFn, ReplaceTrait, ReplaceImplDecl, ReplaceEnumCase, ReplaceEnum, ReplaceConst, ReplaceTypeDecl}
+use Rattle.rast.specs.Replacer.{ReplaceStruct, ReplaceModDecl}
 use Rattle.factor_paths.specs.Mapping.{FinalReplacement}
 use Rattle.factor_paths.specs.Apply.{ReplaceTypeSingle, ReplaceExprSingle, PathSimplifier}
 use Rattle.factor_paths.specs.Walk.{walk, walkAll, walkDecl}
@@ -79,11 +81,13 @@ module _ (op : Operation) (rep : FinalReplacement) (f : Record → Path → Reco
   expr-walk e h = once op rep e (fits-of termKind terms-closed e expr refl h)
 
   -- what ReplaceFn hands on, by whether it walks again
-  counted-type : (b : Bool) (p : Place) → Rattle.records.proofs.Closed.holdsAt typeKind p ≡ true → Rattle.records.proofs.Closed.holdsAt termKind p ≡ true → (r : Record) → Fits r p →
+  counted-type : (b : Bool) (p : Place) → Rattle.records.proofs.Closed.holdsAt typeKind p ≡ true → Rattle.records.proofs.Closed.holdsAt termKind p ≡ true
+      → (r : Record) → Fits r p →
       Replace (λ e. e) (cond b (ReplaceType op R) (R .ReplaceTypeSingle)) r ≡ walk op rep b 1 r
   unfolding ReplaceType PathSimplifier
   counted-type true p g h r fit =
-      type-alone (λ e. e) (Replace (ReplaceExprSingle op rep) (ReplaceTypeSingle op rep)) (Replace (λ e. e) (ReplaceTypeSingle op rep)) r (fits-of typeKind types-closed r p g fit)
+      type-alone (λ e. e) (Replace (ReplaceExprSingle op rep) (ReplaceTypeSingle op rep)) (Replace (λ e. e) (ReplaceTypeSingle op rep)) r
+      (fits-of typeKind types-closed r p g fit)
       ∙ again op rep (λ e. e) (same-keeps op rep) r (fits-of termKind terms-closed r p h fit) (fits-paths r p fit)
   counted-type false p g h r fit =
       type-alone (λ e. e) (ReplaceExprSingle op rep) (ReplaceTypeSingle op rep) r (fits-of typeKind types-closed r p g fit)
@@ -162,13 +166,15 @@ module _ (op : Operation) (rep : FinalReplacement) (f : Record → Path → Reco
   topFn-walk : (r : Record) → Fits r (one 0x7C) → ReplaceTopFn op R r ≡ W r
   unfolding rowOf walk setNth ReplaceTopFn
   topFn-walk =
-      by-kinds (λ r. ReplaceTopFn op R r ≡ W r) 0x7C 0 (lit≤ tt) (λ d hd a ha v hv t ht i. node 0x7C (txt d hd i ▸ kpt a ha i ▸ kpt v hv i ▸ fn-walk t ht i ▸ nil))
+      by-kinds (λ r. ReplaceTopFn op R r ≡ W r) 0x7C 0 (lit≤ tt) (λ d hd a ha v hv t ht i. node 0x7C
+      (txt d hd i ▸ kpt a ha i ▸ kpt v hv i ▸ fn-walk t ht i ▸ nil))
 
   trait-walk : (r : Record) → Fits r (one 0x7B) → ReplaceTrait op R r ≡ W r
   unfolding rowOf walk setNth ReplaceTrait
   trait-walk =
       by-kinds (λ r. ReplaceTrait op R r ≡ W r) 0x7B 0 (lit≤ tt)
-      (λ d hd a ha ps hps t ht ts hts ms hms i. node 0x7B (txt d hd i ▸ kpt a ha i ▸ typeParams-walk ps hps i ▸ type-walk t ht i ▸ seq-walk op rep false 1 type (ReplaceType op R) type-walk ts hts i ▸ body-walk ms hms i ▸ nil))
+      (λ d hd a ha ps hps t ht ts hts ms hms i. node 0x7B (txt d hd i ▸ kpt a ha i ▸ typeParams-walk ps hps i ▸ type-walk t ht i ▸ seq-walk op rep false 1 type
+      (ReplaceType op R) type-walk ts hts i ▸ body-walk ms hms i ▸ nil))
 
   impl-walk : (r : Record) → Fits r (kinds 0x79 0x7A) → ReplaceImplDecl op R r ≡ W r
   unfolding rowOf walk setNth ReplaceImplDecl
@@ -179,28 +185,33 @@ module _ (op : Operation) (rep : FinalReplacement) (f : Record → Path → Reco
 
   enumCase-walk : (r : Record) → Fits r (one 0x74) → ReplaceEnumCase op R r ≡ W r
   unfolding rowOf walk setNth ReplaceEnumCase
-  enumCase-walk = by-kinds (λ r. ReplaceEnumCase op R r ≡ W r) 0x74 0 (lit≤ tt) (λ d hd n hn fs hfs i. node 0x74 (txt d hd i ▸ txt n hn i ▸ fields-walk fs hfs i ▸ nil))
+  enumCase-walk =
+      by-kinds (λ r. ReplaceEnumCase op R r ≡ W r) 0x74 0 (lit≤ tt) (λ d hd n hn fs hfs i. node 0x74 (txt d hd i ▸ txt n hn i ▸ fields-walk fs hfs i ▸ nil))
 
   enum-walk : (r : Record) → Fits r (one 0x73) → ReplaceEnum op R r ≡ W r
   unfolding rowOf walk setNth ReplaceEnum
   enum-walk =
       by-kinds (λ r. ReplaceEnum op R r ≡ W r) 0x73 0 (lit≤ tt)
-      (λ d hd a ha n hn ps hps cs hcs i. node 0x73 (txt d hd i ▸ kpt a ha i ▸ txt n hn i ▸ typeParams-walk ps hps i ▸ seq-walk op rep false 1 (one 0x74) (ReplaceEnumCase op R) enumCase-walk cs hcs i ▸ nil))
+      (λ d hd a ha n hn ps hps cs hcs i. node 0x73 (txt d hd i ▸ kpt a ha i ▸ txt n hn i ▸ typeParams-walk ps hps i ▸ seq-walk op rep false 1 (one 0x74)
+      (ReplaceEnumCase op R) enumCase-walk cs hcs i ▸ nil))
 
   constant-walk : (r : Record) → Fits r (one 0x72) → ReplaceConst op R r ≡ W r
   unfolding rowOf walk setNth ReplaceConst
   constant-walk =
-      by-kinds (λ r. ReplaceConst op R r ≡ W r) 0x72 0 (lit≤ tt) (λ d hd a ha n hn t ht e he i. node 0x72 (txt d hd i ▸ kpt a ha i ▸ txt n hn i ▸ type-walk t ht i ▸ expr-walk e he i ▸ nil))
+      by-kinds (λ r. ReplaceConst op R r ≡ W r) 0x72 0 (lit≤ tt) (λ d hd a ha n hn t ht e he i. node 0x72
+      (txt d hd i ▸ kpt a ha i ▸ txt n hn i ▸ type-walk t ht i ▸ expr-walk e he i ▸ nil))
 
   typeSynonym-walk : (r : Record) → Fits r (one 0x71) → ReplaceTypeDecl op R r ≡ W r
   unfolding rowOf walk setNth ReplaceTypeDecl
   typeSynonym-walk =
-      by-kinds (λ r. ReplaceTypeDecl op R r ≡ W r) 0x71 0 (lit≤ tt) (λ d hd a ha n hn ps hps t ht i. node 0x71 (txt d hd i ▸ kpt a ha i ▸ txt n hn i ▸ typeParams-walk ps hps i ▸ type-walk t ht i ▸ nil))
+      by-kinds (λ r. ReplaceTypeDecl op R r ≡ W r) 0x71 0 (lit≤ tt) (λ d hd a ha n hn ps hps t ht i. node 0x71
+      (txt d hd i ▸ kpt a ha i ▸ txt n hn i ▸ typeParams-walk ps hps i ▸ type-walk t ht i ▸ nil))
 
   struct-walk : (r : Record) → Fits r (one 0x70) → ReplaceStruct op R r ≡ W r
   unfolding rowOf walk setNth ReplaceStruct
   struct-walk =
-      by-kinds (λ r. ReplaceStruct op R r ≡ W r) 0x70 0 (lit≤ tt) (λ d hd a ha n hn ps hps fs hfs i. node 0x70 (txt d hd i ▸ kpt a ha i ▸ txt n hn i ▸ typeParams-walk ps hps i ▸ fields-walk fs hfs i ▸ nil))
+      by-kinds (λ r. ReplaceStruct op R r ≡ W r) 0x70 0 (lit≤ tt) (λ d hd a ha n hn ps hps fs hfs i. node 0x70
+      (txt d hd i ▸ kpt a ha i ▸ txt n hn i ▸ typeParams-walk ps hps i ▸ fields-walk fs hfs i ▸ nil))
 
   -- THE LAW: a module in a declaration goes on with the nested prefix; any other declaration is walked once, its Fns' formals, results and bodies with a count
   pub decl-walk : (SelfPath : Path) (d : Record) → Fits d (kinds 0x62 0x6A) → ReplaceModDecl op R d SelfPath ≡ walkDecl op rep f SelfPath d

@@ -45,7 +45,8 @@ Same k = stepOf k ≡ toStep (role k)
 pub same-step : (k : ℕ) → termKind k ≡ true → Same k
 same-step =
     by-termKind Same
-    (by-typeKind Same (refl ⨾ refl ⨾ refl) (refl ⨾ refl ⨾ refl ⨾ refl) (λ k e. tested (stands type k) (stands expr k) _ _ (or-left (stands type k) (stands expr k) e)) refl)
+    (by-typeKind Same (refl ⨾ refl ⨾ refl) (refl ⨾ refl ⨾ refl ⨾ refl) (λ k e. tested (stands type k) (stands expr k) _ _
+    (or-left (stands type k) (stands expr k) e)) refl)
     (λ k e. tested (stands type k) (stands expr k) _ _ (or-right (stands type k) (stands expr k) e)) refl refl
 
 -- in a type there is no expression
@@ -133,7 +134,8 @@ module _ (op : Operation) (rep : FinalReplacement) where
 
   module _ (f : Record → Record) (keeps : Keeps f) where
     -- one more around a type that is wrapped
-    layer-synonyms : (n : Rattle.rast.specs.Path.Name) (t : Record) → Replace f s t ≡ TSynonym (TIdentifier n) t → (w : ℕ) → Replace f s (synonyms n w t) ≡ synonyms n (suc w) t
+    layer-synonyms : (n : Rattle.rast.specs.Path.Name) (t : Record) → Replace f s t ≡ TSynonym (TIdentifier n) t → (w : ℕ)
+        → Replace f s (synonyms n w t) ≡ synonyms n (suc w) t
     unfolding synonyms Replace ReplaceTypeSingle nth
     layer-synonyms n t h zero = h
     layer-synonyms n t h (suc w) = ap (TSynonym (TIdentifier n)) (layer-synonyms n t h w)
@@ -171,15 +173,18 @@ module _ (op : Operation) (rep : FinalReplacement) where
     unfolding ReplaceExprSingle
     layer-expr c h = go (selected 0x5C (node 0x5C c)) refl
       where
-        one : (n : Rattle.rast.specs.Path.Name) (a b : Bool) → (cond a (Identifier n) (cond b (Identifier n) (node 0x5C c)) ≡ node 0x5C c → x (node 0x5C c) ≡ node 0x5C c) →
+        one : (n : Rattle.rast.specs.Path.Name) (a b : Bool)
+            → (cond a (Identifier n) (cond b (Identifier n) (node 0x5C c)) ≡ node 0x5C c → x (node 0x5C c) ≡ node 0x5C c) →
             Replace f s (cond a (Identifier n) (cond b (Identifier n) (node 0x5C c))) ≡ cond a (Identifier n) (cond b (Identifier n) (node 0x5C c))
         one n true b e = kept-name n
         one n false true e = kept-name n
         one n false false e = kept-path c h (e refl)
 
         go : (o : Option Selected) → selected 0x5C (node 0x5C c) ≡ o →
-            Replace f s (whether o (node 0x5C c) (λ v. cond (replaces op rep (v .name) (v .base)) (Identifier (v .name)) (cond (marked (v .name) && replaces op rep (unmarked (v .name)) (v .base)) (Identifier (v .name)) (node 0x5C c))))
-            ≡ whether o (node 0x5C c) (λ v. cond (replaces op rep (v .name) (v .base)) (Identifier (v .name)) (cond (marked (v .name) && replaces op rep (unmarked (v .name)) (v .base)) (Identifier (v .name)) (node 0x5C c)))
+            Replace f s (whether o (node 0x5C c) (λ v. cond (replaces op rep (v .name) (v .base)) (Identifier (v .name))
+            (cond (marked (v .name) && replaces op rep (unmarked (v .name)) (v .base)) (Identifier (v .name)) (node 0x5C c))))
+            ≡ whether o (node 0x5C c) (λ v. cond (replaces op rep (v .name) (v .base)) (Identifier (v .name))
+            (cond (marked (v .name) && replaces op rep (unmarked (v .name)) (v .base)) (Identifier (v .name)) (node 0x5C c)))
         go none e = kept-path c h (rw e)
         go (some v) e = one (v .name) (replaces op rep (v .name) (v .base)) (marked (v .name) && replaces op rep (unmarked (v .name)) (v .base)) (λ g. rw e g)
 
@@ -203,17 +208,21 @@ module _ (op : Operation) (rep : FinalReplacement) where
     layer-node : (a : Bool) (w k : ℕ) (c : Records) (ρ : Role) → role k ≡ ρ → (eqb k 0x2D || eqb k 0x5C ≡ true → PathIn c) →
         ReplaceParts f s (walkAll op rep a w c) ≡ walkAll op rep a (suc w) c →
         ReplaceParts f s (walkAll op rep a (deeper a w) c) ≡ walkAll op rep a (suc (deeper a w)) c →
-        Replace f s (stepped op rep (toStep ρ) w (node k c) (node k (walkAll op rep a (deeper a w) c)) (node k (walkAll op rep a w c)) (node k (walkFn op rep 0 c)))
-        ≡ stepped op rep (toStep ρ) (suc w) (node k c) (node k (walkAll op rep a (deeper a (suc w)) c)) (node k (walkAll op rep a (suc w) c)) (node k (walkFn op rep 0 c))
+        Replace f s (stepped op rep (toStep ρ) w (node k c) (node k (walkAll op rep a (deeper a w) c)) (node k (walkAll op rep a w c))
+        (node k (walkFn op rep 0 c)))
+        ≡ stepped op rep (toStep ρ) (suc w) (node k c) (node k (walkAll op rep a (deeper a (suc w)) c)) (node k (walkAll op rep a (suc w) c))
+        (node k (walkFn op rep 0 c))
     layer-node a w k c roleType e h same deep = go (eqb k 0x2D) refl
       where
-        go : (b : Bool) → eqb k 0x2D ≡ b → Replace f s (wrap op rep w (node k (walkAll op rep a (deeper a w) c))) ≡ wrap op rep (suc w) (node k (walkAll op rep a (deeper a (suc w)) c))
+        go : (b : Bool) → eqb k 0x2D ≡ b
+            → Replace f s (wrap op rep w (node k (walkAll op rep a (deeper a w) c))) ≡ wrap op rep (suc w) (node k (walkAll op rep a (deeper a (suc w)) c))
         go true g =
             let p : PathIn c = h (or-left (eqb k 0x2D) (eqb k 0x5C) g) in
             rw (paths-walked a (deeper a w) c p, paths-walked a (deeper a (suc w)) c p, eqb-true k 0x2D g) (layer-type c p w)
         go false g =
             rw (wrap-other w k (walkAll op rep a (deeper a w) c) g, wrap-other (suc w) k (walkAll op rep a (deeper a (suc w)) c) g)
-            (at-type k _ e ∙ ap (λ d. s (node k d)) (deep ∙ ap (λ n. walkAll op rep a n c) (deeper-suc a w)) ∙ sym (wrap-one (node k (walkAll op rep a (deeper a (suc w)) c))) ∙ wrap-other 1 k _ g)
+            (at-type k _ e ∙ ap (λ d. s (node k d)) (deep ∙ ap (λ n. walkAll op rep a n c) (deeper-suc a w)) ∙ sym
+            (wrap-one (node k (walkAll op rep a (deeper a (suc w)) c))) ∙ wrap-other 1 k _ g)
     layer-node a w k c roleExpr e h same deep = go (eqb k 0x5C) refl
       where
         go : (b : Bool) → eqb k 0x5C ≡ b → Replace f s (x (node k (walkAll op rep a (deeper a w) c))) ≡ x (node k (walkAll op rep a (deeper a (suc w)) c))
@@ -222,7 +231,8 @@ module _ (op : Operation) (rep : FinalReplacement) where
             rw (paths-walked a (deeper a w) c p, paths-walked a (deeper a (suc w)) c p, eqb-true k 0x5C g) (layer-expr c p)
         go false g =
             rw (expr-other k (walkAll op rep a (deeper a w) c) g, expr-other k (walkAll op rep a (deeper a (suc w)) c) g)
-            (at-expr k _ e ∙ ap (λ d. f (node k d)) (deep ∙ ap (λ n. walkAll op rep a n c) (deeper-suc a w)) ∙ keeps _ (expr-other k (walkAll op rep a (deeper a (suc w)) c) g))
+            (at-expr k _ e ∙ ap (λ d. f (node k d)) (deep ∙ ap (λ n. walkAll op rep a n c) (deeper-suc a w)) ∙ keeps _
+            (expr-other k (walkAll op rep a (deeper a (suc w)) c) g))
     layer-node a w k c roleHolds e h same deep = at-holds k _ e ∙ ap (node k) same
     layer-node a w k c other e h same deep = at-other k c e
 
@@ -240,7 +250,8 @@ module _ (op : Operation) (rep : FinalReplacement) where
 
   -- what ReplaceType and ReplaceExpr do, outside of a Fn, is the walk that does not count: each path type is wrapped once
   once-node : (k : ℕ) (c : Records) (ρ : Role) → ReplaceParts x s c ≡ walkAll op rep false 1 c →
-      mapped x s ρ (node k c) (node k (ReplaceParts x s c)) ≡ stepped op rep (toStep ρ) 1 (node k c) (node k (walkAll op rep false 1 c)) (node k (walkAll op rep false 1 c)) (node k (walkFn op rep 0 c))
+      mapped x s ρ (node k c) (node k (ReplaceParts x s c))
+      ≡ stepped op rep (toStep ρ) 1 (node k c) (node k (walkAll op rep false 1 c)) (node k (walkAll op rep false 1 c)) (node k (walkFn op rep 0 c))
   once-node k c roleType h = ap (λ d. s (node k d)) h ∙ sym (wrap-one (node k (walkAll op rep false 1 c)))
   once-node k c roleExpr h = ap (λ d. x (node k d)) h
   once-node k c roleHolds h = ap (node k) h
@@ -265,12 +276,15 @@ module _ (op : Operation) (rep : FinalReplacement) where
 
   -- THE WRAPPING: handed on to Replace, they are the walk that counts. A path type under n type and expression records is wrapped n + 1 times
   module _ (f : Record → Record) (keeps : Keeps f) where
-    again-node : (k : ℕ) (c : Records) (ρ : Role) → role k ≡ ρ → OfAll termKind c → PathsAll c → ReplaceParts (Replace x s) (Replace f s) c ≡ walkAll op rep true 1 c →
+    again-node : (k : ℕ) (c : Records) (ρ : Role) → role k ≡ ρ → OfAll termKind c → PathsAll c
+        → ReplaceParts (Replace x s) (Replace f s) c ≡ walkAll op rep true 1 c →
         mapped (Replace x s) (Replace f s) ρ (node k c) (node k (ReplaceParts (Replace x s) (Replace f s) c))
         ≡ stepped op rep (toStep ρ) 1 (node k c) (node k (walkAll op rep true 2 c)) (node k (walkAll op rep true 1 c)) (node k (walkFn op rep 0 c))
     again-node k c roleType e o p h =
-        ap (λ d. Replace f s (node k d)) h ∙ at-type f keeps k _ e ∙ ap (λ d. s (node k d)) (layer-all f keeps true 1 c o p) ∙ sym (wrap-one (node k (walkAll op rep true 2 c)))
-    again-node k c roleExpr e o p h = ap (λ d. Replace x s (node k d)) h ∙ at-expr x expr-keeps k _ e ∙ ap (λ d. x (node k d)) (layer-all x expr-keeps true 1 c o p)
+        ap (λ d. Replace f s (node k d)) h ∙ at-type f keeps k _ e ∙ ap (λ d. s (node k d)) (layer-all f keeps true 1 c o p)
+        ∙ sym (wrap-one (node k (walkAll op rep true 2 c)))
+    again-node k c roleExpr e o p h =
+        ap (λ d. Replace x s (node k d)) h ∙ at-expr x expr-keeps k _ e ∙ ap (λ d. x (node k d)) (layer-all x expr-keeps true 1 c o p)
     again-node k c roleHolds e o p h = ap (node k) h
     again-node k c other e o p h = refl
 

@@ -1,9 +1,10 @@
--- PathSimplifier, applyPrefix and apply of FactorPathsOptimization (01, PathSimplifier on RASTBottomUpReplacer, applyPrefix). Assumes nothing: these are definitions.
+-- PathSimplifier, applyPrefix and apply of FactorPathsOptimization (01, PathSimplifier on RASTBottomUpReplacer, applyPrefix). Assumes nothing: these are
+-- definitions.
 use mathlib.Core.Bool.{Bool, false, _&&_, cond}
 use Prim.Native.Nat.{ℕ, zero, suc}
 use Rattle.records.specs.Record.{Record, Records, leaf, node, nil, _▸_, _▸▸_, children, update, put, deep}
 use Rattle.rast.specs.Path.{Name, Path, MSel, selected, whether}
-use Rattle.rast.specs.Operation.{Operation}
+use Rattle.rast.specs.Operation.{Operation, entering}
 use Rattle.rast.specs.Mod.{ExternMod?, nameOf}
 use Rattle.rast.specs.Visitor.{VisitMod}
 use Rattle.rast.specs.Replacer.{RASTBottomUpReplacer, ReplaceMod}
@@ -38,7 +39,7 @@ module _ (op : Operation) where
   unfoldable pub PathSimplifier : (Record → Path → Record) → FinalReplacement → RASTBottomUpReplacer
   PathSimplifier applyPrefix replacement =
       record {
-        ReplaceModSingle = λ m SelfPath. applyPrefix m (op .entering SelfPath (nameOf m));
+        ReplaceModSingle = λ m SelfPath. applyPrefix m (entering op SelfPath (nameOf m));
         ReplaceTypeSingle = ReplaceTypeSingle replacement;
         ReplaceExprSingle = ReplaceExprSingle replacement;
       }

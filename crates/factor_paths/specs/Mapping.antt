@@ -1,12 +1,12 @@
 -- Mapping of FactorPathsOptimization (01, Mapping). Assumes nothing: these are definitions.
 use mathlib.Core.List.{List, [], _∷_, _++_}
-use mathlib.Core.Bool.{Bool, false, _||_, cond}
+use mathlib.Core.Bool.{Bool, cond}
 use mathlib.Core.Option.{Option, none, some}
 use Prim.Native.Nat.{ℕ, _+_}
 use lib.ListN.{length}
-use lib.Dec.{eqb}
 use Rattle.records.specs.Record.{Record, Records, leaf, node, nil, _▸_}
-use Rattle.rast.specs.Path.{Name, Path, MSel, «dafny_runtime», samePath, whether}
+use Rattle.rast.specs.Path.{Name, Path, MSel, samePath, whether}
+use Rattle.rast.specs.Final.{isAmong}
 use Rattle.rast.specs.Operation.{Operation}
 
 -- map<string, A>, its names in the order in which they were first put
@@ -31,11 +31,6 @@ noMapping = record { provenance = []; keys = [] }
 abbrev pub FinalReplacement : Type 0
 FinalReplacement = List (Entry Path)
 
--- of a set with one element; of none, any path
-abbrev pub UniqueElementOf : List Path → Path
-UniqueElementOf [] = «dafny_runtime»
-UniqueElementOf (p ∷ ps) = p
-
 -- UseDecl(Use(PUB, path)): PUB is a Kept of the byte 01 (01, Leaf 2)
 abbrev pub useDecl : Path → Record
 useDecl p = node 0x6A (node 0x80 (leaf 0x03 (1 ∷ []) ▸ p ▸ nil) ▸ nil)
@@ -52,10 +47,9 @@ module _ (op : Operation) where
   set k a [] = entry k a ∷ []
   set k a (e ∷ es) = cond (op .sameName (e .name) k) (entry (e .name) a ∷ es) (e ∷ set k a es)
 
-  -- set<Path>, as a list without repetition
-  unfoldable pub _among_ : Path → List Path → Bool
-  _among_ p [] = false
-  _among_ p (q ∷ qs) = equal p q || _among_ p qs
+  -- set<Path>
+  abbrev pub _among_ : Path → List Path → Bool
+  _among_ p ps = isAmong equal p ps
 
   abbrev pub include : Path → List Path → List Path
   include p ps = cond (_among_ p ps) ps (ps ++ (p ∷ []))
@@ -68,12 +62,7 @@ module _ (op : Operation) where
 
   -- the entry of an identifier that has a final path, before the others
   abbrev pub final : Path → Entry (List Path) → FinalReplacement → FinalReplacement
-  final SelfPath e others =
-      let paths : List Path = e .held in
-      let one : Bool = eqb (length paths) 1 in
-      cond (one || _among_ SelfPath paths || _among_ «dafny_runtime» paths)
-      (entry (e .name) (cond one (UniqueElementOf paths) (cond (_among_ SelfPath paths) SelfPath «dafny_runtime»)) ∷ others)
-      others
+  final SelfPath e others = whether (op .chosenBase SelfPath (e .held)) others (λ path. entry (e .name) path ∷ others)
 
   unfoldable pub ToFinalReplacement : Provenance → Path → FinalReplacement
   ToFinalReplacement [] SelfPath = []

@@ -1,4 +1,5 @@
--- One walk over a module's declarations that does what the replacer does with PathSimplifier: proofs/Wraps, Walks and Modules show it. Assumes nothing: these are definitions.
+-- One walk over a module's declarations that does what the replacer does with PathSimplifier: proofs/Wraps, Walks and Modules show it. Assumes nothing: these
+-- are definitions.
 use mathlib.Core.Bool.{Bool, true, false, _&&_, _||_, cond}
 use Prim.Native.Nat.{ℕ, zero, suc}
 use lib.Dec.{eqb, leb}
@@ -15,7 +16,8 @@ unfoldable pub synonyms : Name → ℕ → Record → Record
 synonyms name zero this = this
 synonyms name (suc n) this = TSynonym (TIdentifier name) (synonyms name n this)
 
--- what the walk does at a record: texts, paths, uses and modules are left; a Fn's formals, result and body count what is around a type; what is none of these holds others
+-- what the walk does at a record: texts, paths, uses and modules are left; a Fn's formals, result and body count what is around a type; what is none of these
+-- holds others
 pub data Step : Type 0 where
   aType anExpr aFn left holds : Step
 

@@ -75,7 +75,8 @@ module _ (c it : Bytes) (k : ℕ) (e : it ≡ take (length c) (drop 6 c)) where
 
 -- where a module's name stands
 module _ (card : Bytes) (at : ℕ) where
-  pub place-in : (s : Bytes) (o : ℕ) → at < length card → s ≡ take (length card) (drop at card) → (o ≡ nameAt 0x62 s) × (o < 2 ^ 41) → at + o ≡ namePlace card at
+  pub place-in : (s : Bytes) (o : ℕ) → at < length card → s ≡ take (length card) (drop at card) → (o ≡ nameAt 0x62 s) × (o < 2 ^ 41)
+      → at + o ≡ namePlace card at
   unfolding namePlace
   place-in s o h e f = rw (lt-ltb at (length card) h, f .0, tail-part card s at e)
 

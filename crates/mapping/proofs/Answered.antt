@@ -1,7 +1,7 @@
 -- The outermost module: what is answered, by what admission and collecting say. Assumes nothing.
-use mathlib.Core.Path.{_≡_, refl, ap, sym, subst, _∙_}
+use mathlib.Core.Path.{_≡_, refl, ap, sym, _∙_}
 use mathlib.Core.List.{List, [], _∷_, _++_, append-nil}
-use Prim.Native.Nat.{ℕ, _+_, _<_, _≤_}
+use Prim.Native.Nat.{ℕ, _+_, _<_, _≤_, min}
 use native.Mathlib.Omega.{arith}
 use lib.ListN.{length, take, drop, getD, replicate, length-take, length-drop, length-append}
 use borrow.Author.Tests.{lt-ltb, le-ltb}
@@ -11,36 +11,38 @@ use Rattle.answers.specs.declared.Verdict.{Verdict}
 use Rattle.answers.specs.declared.Verdict.the-variants.{Sound, Refused}
 use Rattle.wire.specs.Numbers.{Bytes}
 use Rattle.wire.proofs.Numbers.{are-bytes}
-use Rattle.records.specs.Record.{leaf, encode, lengthOf, tree}
+use Rattle.records.specs.Record.{leaf, encode, lengthOf, tree, recordAt}
 use Rattle.records.specs.Kinds.{path, mod′}
-use Rattle.records.proofs.Tree.{Canonical, record-length}
+use Rattle.records.specs.Canonical.{Canonical}
+use Rattle.records.proofs.Tree.{record-length}
 use Rattle.records.proofs.Sound.{ReadsAs, sound-reads}
+use Rattle.records.proofs.Starts.{Starts}
 use Rattle.rast.specs.Operation.{upstream}
 use Rattle.rast.specs.Mod.{nameOf}
 use Rattle.factor_paths.specs.Mapping.{pairs}
 use Rattle.outcome.specs.Outcome.{admitted}
 use Rattle.outcome.proofs.Accepted.{Admitted, admitted-sound}
-use Rattle.prefix.specs.Prefix.{recordAt, prefixOf}
+use Rattle.operation.specs.declared.Shortening.the-variants.{Upstream}
+use Rattle.prefix.specs.Prefix.{prefixIn, scope}
 use Rattle.prefix.proofs.Nested.{outermost-prefix}
-use Rattle.table.specs.Words.{Stored, pairsIn, Has}
-use Rattle.table.specs.Means.{Means}
-use Rattle.table.proofs.Means.{means-count}
-use Rattle.table.proofs.Stores.{pairs-ahead}
+use Rattle.pairs.proofs.Means.{means-count}
+use Rattle.adding.specs.Adds.{Table, table}
 use Rattle.fields.specs.Fields.{nameAt, namePlace}
-use Rattle.collecting.specs.Gathers.{gathered}
-use Rattle.collecting.proofs.Parts.{Starts}
-use Rattle.collecting.proofs.Mapped.{name-record, selected-canonical, module-means}
-use Rattle.mapping.specs.Outermost.{outermostPrefix, outermostMapping, collected, Leaves}
+use Rattle.gathering.specs.Gathers.{gathered}
+use Rattle.gathering.specs.Tabled.{Tabled}
+use Rattle.gathering.proofs.Keeps.{gathered-length}
+use Rattle.gathering.proofs.Mapped.{name-record, selected-canonical, module-tabled}
+use Rattle.mapping.specs.Outermost.{outermostPrefix, outermostMapping, collected, outermostScope, wordsAfter}
 use Rattle.mapping.specs.declared.Collected.{Collected}
 use Rattle.mapping.specs.declared.Collected.the-variants.{Pairs, Refusal}
 
 module _ (card root : Bytes) (work : List ℕ) (v : Verdict) (e : v ≡ admitted upstream card root (length work)) where
   -- what is answered, and what the words are then
   abbrev Answered : List ℕ → Collected → Type 0
-  Answered work′ c = (c ≡ collected card root (length work)) × Leaves card root work work′ (admitted upstream card root (length work)) c
+  Answered work′ c = (c ≡ collected card root (length work)) × (work′ ≡ wordsAfter card root work)
 
   pub refused : (a : Answer) → v ≡ Refused a → Answered work (Refusal a)
-  unfolding collected
+  unfolding collected wordsAfter
   refused a h = rw (← e, h) (refl, refl)
 
   module _ (h : v ≡ Sound) where
@@ -79,11 +81,10 @@ module _ (card root : Bytes) (work : List ℕ) (v : Verdict) (e : v ≡ admitted
       unfolding namePlace
       placed = p ∙ (let l = short-name in rw (lt-ltb 0 (length card) (omega arith)))
 
-      abbrev P : Bytes
-      P = prefixOf card root (o ∷ [])
-
-      prefix-is : P ≡ encode (outermostPrefix card root)
-      prefix-is = outermost-prefix card root o (nameOf (tree card)) (ap (recordAt card) placed ∙ named) (tree root) (sym (is-root .encoded))
+      prefix-is : prefixIn (outermostScope card root) ≡ encode (outermostPrefix card root)
+      prefix-is =
+          ap (λ (x : ℕ). prefixIn (scope Upstream card root (x ∷ []))) (sym p)
+          ∙ outermost-prefix upstream card root o (nameOf (tree card)) (ap (recordAt card) placed ∙ named) (tree root) (sym (is-root .encoded))
 
       canonical : Canonical (outermostPrefix card root)
       canonical =
@@ -93,37 +94,49 @@ module _ (card root : Bytes) (work : List ℕ) (v : Verdict) (e : v ≡ admitted
           let d = short-name in
           selected-canonical (tree root) (nameOf (tree card)) (is-root .canonical) (omega arith)
 
-      means : Means (gathered P 48 card 0) (outermostMapping card root)
-      means = module-means card 0 (tree card) starts (is-card .fits) (is-card .canonical) 48 (is-card .shallow) (let c = sound .card-length in omega arith) P (outermostPrefix card root) canonical prefix-is
+      abbrev pub Gathered : Table
+      Gathered = gathered (outermostScope card root) 48 0 (take 2048 work)
 
-      count : length (gathered P 48 card 0) ≡ pairs (outermostMapping card root .provenance)
-      count = means-count (gathered P 48 card 0) (outermostMapping card root) means
+      -- the words mean the definition's mapping
+      pub tabled : Tabled (outermostScope card root) Gathered (outermostMapping card root)
+      tabled =
+          module-tabled (outermostScope card root) 0 (tree card) starts (is-card .fits) (is-card .canonical) 48 (is-card .shallow)
+          (let c = sound .card-length in omega arith) (outermostPrefix card root) canonical prefix-is (take 2048 work)
 
-      module _ (part′ : List ℕ) (n : ℕ) (q : (length part′ ≡ length (take 2048 work)) × Has card P part′ n (gathered P 48 card 0)) where
-        long : length part′ ≡ 2048
-        long = q .0 ∙ sym lent
+      pub gathered-long : length (Gathered .words) ≡ 2048
+      gathered-long = gathered-length (outermostScope card root) 48 0 (take 2048 work) ∙ sym lent
+
+      pub gathered-count : Gathered .count ≡ min (pairs (outermostMapping card root .provenance)) 513
+      gathered-count =
+          let a = gathered-long in
+          let b = tabled .has .count in
+          let c = means-count Upstream (tabled .pairs) (outermostMapping card root) (tabled .means) in
+          omega arith
+
+      module _ (part′ : List ℕ) (n : ℕ) (q : table n part′ ≡ gathered (scope Upstream card root (o ∷ [])) 48 0 (take 2048 work)) where
+        is-gathered : table n part′ ≡ Gathered
+        is-gathered = q ∙ ap (λ (x : ℕ). gathered (scope Upstream card root (x ∷ [])) 48 0 (take 2048 work)) p
+
+        pub words-long : length part′ ≡ 2048
+        words-long = ap (λ (t : Table). length (t .words)) is-gathered ∙ gathered-long
+
+        count : n ≡ min (pairs (outermostMapping card root .provenance)) 513
+        count = ap (λ (t : Table). t .count) is-gathered ∙ gathered-count
 
         pub full : 512 < n → (work′ : List ℕ) → work′ ≡ replicate (length (part′ ++ drop 2048 work)) 0 → Answered work′ (Refusal (FullTable 0))
-        unfolding collected
+        unfolding collected wordsAfter
         full l work′ z =
-            let a = long in
-            let b = q .1 .count in
-            let c = count in
+            let a = words-long in
+            let b = count in
             let d = length-append part′ (drop 2048 work) in
             let g = length-drop 2048 work in
             let m = enough in
-            rw (← e, h, lt-ltb 512 (pairs (outermostMapping card root .provenance)) (omega arith)) (refl, z ∙ ap (λ (k : ℕ). replicate k 0) (let w : length (part′ ++ drop 2048 work) ≡ length work = omega arith in w))
+            let w : length (part′ ++ drop 2048 work) ≡ length work = omega arith in
+            rw (← e, h, lt-ltb 512 (pairs (outermostMapping card root .provenance)) (omega arith)) (refl, z ∙ ap (λ (k : ℕ). replicate k 0) w)
 
         pub some : n ≤ 512 → Answered (part′ ++ drop 2048 work) (Pairs n)
-        unfolding collected
+        unfolding collected wordsAfter
         some l =
-            let a = long in
-            let b = q .1 .count in
-            let c = count in
-            let d = length-append part′ (drop 2048 work) in
-            let g = length-drop 2048 work in
-            let m = enough in
+            let b = count in
             let k : pairs (outermostMapping card root .provenance) ≡ n = omega arith in
-            let same : pairsIn card (encode (outermostPrefix card root)) (part′ ++ drop 2048 work) n ≡ gathered P 48 card 0 =
-            ap (λ (x : Bytes). pairsIn card x (part′ ++ drop 2048 work) n) (sym prefix-is) ∙ pairs-ahead card P part′ (drop 2048 work) 0 n (omega arith) ∙ q .1 .pairs (omega arith) in
-            rw (← e, h, k, le-ltb 512 n l) (refl, (omega arith, subst (λ (t : List Stored). Means t (outermostMapping card root)) (sym same) means))
+            rw (← e, h, k, le-ltb 512 n l) (refl, ap (λ (t : Table). t .words ++ drop 2048 work) is-gathered)

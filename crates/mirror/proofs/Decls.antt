@@ -2,9 +2,15 @@
 use mathlib.Core.Path.{_≡_, refl}
 use mathlib.Core.List.{[], _∷_}
 use Rattle.records.specs.Kinds.{rowOf}
-use Rattle.mirror.specs.Rast.{TypeParamDecl, TypeParamDecl′, Field, Field′, NamelessField, NamelessField′, Fields, NamedFields, NamelessFields, Struct, Struct′, TypeSynonym, TypeSynonym′, Constant, Constant′, EnumCase, EnumCase′, Enum, Enum′, Fn, Fn′, ImplMember, RawImplMember, FnDecl, TypeDeclMember, ImplMemberMacro, Impl, ImplFor, Impl′, Trait, Trait′, TopFnDecl, TopFn, Use, Use′}
-use Rattle.mirror.specs.Tree.{TypeParamDecl·tree, Field·tree, NamelessField·tree, Fields·tree, Struct·tree, TypeSynonym·tree, Constant·tree, EnumCase·tree, Enum·tree, Fn·tree, ImplMember·tree, Impl·tree, Trait·tree, TopFnDecl·tree, Use·tree}
-use Rattle.mirror.proofs.Decode.{TypeParamDecl·at, TypeParamDecl·of, Field·at, Field·of, NamelessField·at, NamelessField·of, Fields·at, Fields·of, Struct·at, Struct·of, TypeSynonym·at, TypeSynonym·of, Constant·at, Constant·of, EnumCase·at, EnumCase·of, Enum·at, Enum·of, Fn·at, Fn·of, ImplMember·at, ImplMember·of, Impl·at, Impl·of, Trait·at, Trait·of, TopFnDecl·at, TopFnDecl·of, Use·at, Use·of}
+use Rattle.mirror.specs.Rast.{TypeParamDecl, TypeParamDecl′, Field, Field′, NamelessField, NamelessField′, Fields, NamedFields, NamelessFields, Struct}
+use Rattle.mirror.specs.Rast.{Struct′, TypeSynonym, TypeSynonym′, Constant, Constant′, EnumCase, EnumCase′, Enum, Enum′, Fn, Fn′, ImplMember}
+use Rattle.mirror.specs.Rast.{RawImplMember, FnDecl, TypeDeclMember, ImplMemberMacro, Impl, ImplFor, Impl′, Trait, Trait′, TopFnDecl, TopFn, Use, Use′}
+use Rattle.mirror.specs.Tree.{TypeParamDecl·tree, Field·tree, NamelessField·tree, Fields·tree, Struct·tree, TypeSynonym·tree, Constant·tree}
+use Rattle.mirror.specs.Tree.{EnumCase·tree, Enum·tree, Fn·tree, ImplMember·tree, Impl·tree, Trait·tree, TopFnDecl·tree, Use·tree}
+use Rattle.mirror.proofs.Decode.{TypeParamDecl·at, TypeParamDecl·of, Field·at, Field·of, NamelessField·at, NamelessField·of, Fields·at, Fields·of}
+use Rattle.mirror.proofs.Decode.{Struct·at, Struct·of, TypeSynonym·at, TypeSynonym·of, Constant·at, Constant·of, EnumCase·at, EnumCase·of, Enum·at}
+use Rattle.mirror.proofs.Decode.{Enum·of, Fn·at, Fn·of, ImplMember·at, ImplMember·of, Impl·at, Impl·of, Trait·at, Trait·of, TopFnDecl·at, TopFnDecl·of}
+use Rattle.mirror.proofs.Decode.{Use·at, Use·of}
 use Rattle.records.proofs.Run.{_⨾_}
 use Rattle.mirror.proofs.Rows.{Law, Codec, row, sure, plain, Plain, plain·codec, text·codec, kept·codec, option·codec, option·back, seq·codec, seq·back}
 use Rattle.mirror.proofs.Paths.{Path·back, Path·codec}
@@ -61,7 +67,8 @@ Fields·codec = plain·codec Fields·tree Fields·at 0x75 1 tt Fields·back Fiel
 
 pub Struct·back : (x : Struct) → Struct·of (Struct·tree x) ≡ x
 unfolding Struct·at Struct·tree
-Struct·back (Struct′ docString attributes name typeParams fields) = λ i. Struct′ docString attributes name (seq·back TypeParamDecl·codec typeParams i) (Fields·back fields i)
+Struct·back (Struct′ docString attributes name typeParams fields) =
+    λ i. Struct′ docString attributes name (seq·back TypeParamDecl·codec typeParams i) (Fields·back fields i)
 
 pub Struct·cases : Plain Struct·tree Struct·at 0x70 0
 unfolding Struct·at Struct·tree rowOf
@@ -72,7 +79,8 @@ Struct·codec = plain·codec Struct·tree Struct·at 0x70 0 tt Struct·back Stru
 
 pub TypeSynonym·back : (x : TypeSynonym) → TypeSynonym·of (TypeSynonym·tree x) ≡ x
 unfolding TypeSynonym·at TypeSynonym·tree
-TypeSynonym·back (TypeSynonym′ docString attributes name typeParams tpe) = λ i. TypeSynonym′ docString attributes name (seq·back TypeParamDecl·codec typeParams i) (Type·back tpe i)
+TypeSynonym·back (TypeSynonym′ docString attributes name typeParams tpe) =
+    λ i. TypeSynonym′ docString attributes name (seq·back TypeParamDecl·codec typeParams i) (Type·back tpe i)
 
 pub TypeSynonym·cases : Plain TypeSynonym·tree TypeSynonym·at 0x71 0
 unfolding TypeSynonym·at TypeSynonym·tree rowOf
@@ -105,7 +113,8 @@ EnumCase·codec = plain·codec EnumCase·tree EnumCase·at 0x74 0 tt EnumCase·b
 
 pub Enum·back : (x : Enum) → Enum·of (Enum·tree x) ≡ x
 unfolding Enum·at Enum·tree
-Enum·back (Enum′ docString attributes name typeParams variants) = λ i. Enum′ docString attributes name (seq·back TypeParamDecl·codec typeParams i) (seq·back EnumCase·codec variants i)
+Enum·back (Enum′ docString attributes name typeParams variants) =
+    λ i. Enum′ docString attributes name (seq·back TypeParamDecl·codec typeParams i) (seq·back EnumCase·codec variants i)
 
 pub Enum·cases : Plain Enum·tree Enum·at 0x73 0
 unfolding Enum·at Enum·tree rowOf
@@ -116,11 +125,14 @@ Enum·codec = plain·codec Enum·tree Enum·at 0x73 0 tt Enum·back Enum·cases
 
 pub Fn·back : (x : Fn) → Fn·of (Fn·tree x) ≡ x
 unfolding Fn·at Fn·tree
-Fn·back (Fn′ name typeParams formals returnType body) = λ i. Fn′ name (seq·back TypeParamDecl·codec typeParams i) (seq·back Formal·codec formals i) (option·back Type·codec returnType i) (option·back Expr·codec body i)
+Fn·back (Fn′ name typeParams formals returnType body) =
+    λ i. Fn′ name (seq·back TypeParamDecl·codec typeParams i) (seq·back Formal·codec formals i) (option·back Type·codec returnType i)
+    (option·back Expr·codec body i)
 
 pub Fn·cases : Plain Fn·tree Fn·at 0x7D 0
 unfolding Fn·at Fn·tree rowOf
-Fn·cases = row plain (a text·codec ∷ a (seq·codec TypeParamDecl·codec) ∷ a (seq·codec Formal·codec) ∷ a (option·codec Type·codec) ∷ a (option·codec Expr·codec) ∷ [])
+Fn·cases =
+    row plain (a text·codec ∷ a (seq·codec TypeParamDecl·codec) ∷ a (seq·codec Formal·codec) ∷ a (option·codec Type·codec) ∷ a (option·codec Expr·codec) ∷ [])
 
 abbrev pub Fn·codec : Codec Fn
 Fn·codec = plain·codec Fn·tree Fn·at 0x7D 0 tt Fn·back Fn·cases
@@ -134,26 +146,32 @@ ImplMember·back (ImplMemberMacro expr) = λ i. ImplMemberMacro (Expr·back expr
 
 pub ImplMember·cases : Plain ImplMember·tree ImplMember·at 0x83 3
 unfolding ImplMember·at ImplMember·tree rowOf
-ImplMember·cases = row plain (a text·codec ∷ []) ⨾ row plain (a text·codec ∷ a kept·codec ∷ a kept·codec ∷ a Fn·codec ∷ []) ⨾ row plain (a text·codec ∷ a Type·codec ∷ []) ⨾ row plain (a Expr·codec ∷ [])
+ImplMember·cases =
+    row plain (a text·codec ∷ []) ⨾ row plain (a text·codec ∷ a kept·codec ∷ a kept·codec ∷ a Fn·codec ∷ []) ⨾ row plain (a text·codec ∷ a Type·codec ∷ []) ⨾
+    row plain (a Expr·codec ∷ [])
 
 abbrev pub ImplMember·codec : Codec ImplMember
 ImplMember·codec = plain·codec ImplMember·tree ImplMember·at 0x83 3 tt ImplMember·back ImplMember·cases
 
 pub Impl·back : (x : Impl) → Impl·of (Impl·tree x) ≡ x
 unfolding Impl·at Impl·tree
-Impl·back (ImplFor typeParams tpe forType body) = λ i. ImplFor (seq·back TypeParamDecl·codec typeParams i) (Type·back tpe i) (Type·back forType i) (seq·back ImplMember·codec body i)
+Impl·back (ImplFor typeParams tpe forType body) =
+    λ i. ImplFor (seq·back TypeParamDecl·codec typeParams i) (Type·back tpe i) (Type·back forType i) (seq·back ImplMember·codec body i)
 Impl·back (Impl′ typeParams tpe body) = λ i. Impl′ (seq·back TypeParamDecl·codec typeParams i) (Type·back tpe i) (seq·back ImplMember·codec body i)
 
 pub Impl·cases : Plain Impl·tree Impl·at 0x79 1
 unfolding Impl·at Impl·tree rowOf
-Impl·cases = row plain (a (seq·codec TypeParamDecl·codec) ∷ a Type·codec ∷ a Type·codec ∷ a (seq·codec ImplMember·codec) ∷ []) ⨾ row plain (a (seq·codec TypeParamDecl·codec) ∷ a Type·codec ∷ a (seq·codec ImplMember·codec) ∷ [])
+Impl·cases =
+    row plain (a (seq·codec TypeParamDecl·codec) ∷ a Type·codec ∷ a Type·codec ∷ a (seq·codec ImplMember·codec) ∷ []) ⨾ row plain
+    (a (seq·codec TypeParamDecl·codec) ∷ a Type·codec ∷ a (seq·codec ImplMember·codec) ∷ [])
 
 abbrev pub Impl·codec : Codec Impl
 Impl·codec = plain·codec Impl·tree Impl·at 0x79 1 tt Impl·back Impl·cases
 
 pub Trait·back : (x : Trait) → Trait·of (Trait·tree x) ≡ x
 unfolding Trait·at Trait·tree
-Trait·back (Trait′ docString attributes typeParams tpe parents body) = λ i. Trait′ docString attributes (seq·back TypeParamDecl·codec typeParams i) (Type·back tpe i) (Types·back parents i) (seq·back ImplMember·codec body i)
+Trait·back (Trait′ docString attributes typeParams tpe parents body) =
+    λ i. Trait′ docString attributes (seq·back TypeParamDecl·codec typeParams i) (Type·back tpe i) (Types·back parents i) (seq·back ImplMember·codec body i)
 
 pub Trait·cases : Plain Trait·tree Trait·at 0x7B 0
 unfolding Trait·at Trait·tree rowOf

@@ -6,12 +6,19 @@ use Rattle.records.specs.Record.{Record, children}
 use Rattle.records.specs.Kinds.{one, seq, option, expr, rowOf}
 use Rattle.records.proofs.Fits.{Fits}
 use Rattle.mirror.specs.Rast.{Formal, Formal′}
-use Rattle.mirror.specs.Rast.{Expr, RawExpr, ExprFromType, Identifier, Match, StmtExpr, Block, StructBuild, Tuple, UnaryOp, BinaryOp, TypeAscription, TraitCast, LiteralInt, LiteralBool, LiteralString, DeclareVar, Assign, IfExpr, Loop, For, Labelled, Break, Continue, Return, CallType, Call, Select, SelectIndex, ExprFromPath, FunctionSelect, Lambda}
-use Rattle.mirror.specs.Rast.{Exprs, []ᵉ, _∷ᵉ_, OptExpr, None, Some, MatchCase, MatchCase′, MatchCases, []ᶜ, _∷ᶜ_, AssignIdentifier, AssignIdentifier′, AssignIdentifiers, []ᵃ, _∷ᵃ_}
-use Rattle.mirror.specs.Tree.{list, Formal·tree, Expr·tree, Exprs·trees, OptExpr·tree, MatchCase·tree, MatchCases·trees, AssignIdentifier·tree, AssignIdentifiers·trees}
-use Rattle.mirror.proofs.Decode.{read, fold, foldAll, Formal·at, Expr·absent, Expr·at, MatchCase·at, AssignIdentifier·at, Expr·reading, Expr·of, Exprs·of, OptExpr·of, MatchCase·of, MatchCases·of, AssignIdentifier·of, AssignIdentifiers·of, Exprs·from, OptExpr·from, MatchCases·from, AssignIdentifiers·from}
+use Rattle.mirror.specs.Rast.{Expr, RawExpr, ExprFromType, Identifier, Match, StmtExpr, Block, StructBuild, Tuple, UnaryOp, BinaryOp, TypeAscription}
+use Rattle.mirror.specs.Rast.{TraitCast, LiteralInt, LiteralBool, LiteralString, DeclareVar, Assign, IfExpr, Loop, For, Labelled, Break, Continue, Return}
+use Rattle.mirror.specs.Rast.{CallType, Call, Select, SelectIndex, ExprFromPath, FunctionSelect, Lambda}
+use Rattle.mirror.specs.Rast.{Exprs, []ᵉ, _∷ᵉ_, OptExpr, None, Some, MatchCase, MatchCase′, MatchCases, []ᶜ, _∷ᶜ_, AssignIdentifier, AssignIdentifier′}
+use Rattle.mirror.specs.Rast.{AssignIdentifiers, []ᵃ, _∷ᵃ_}
+use Rattle.mirror.specs.Tree.{list, Formal·tree, Expr·tree, Exprs·trees, OptExpr·tree, MatchCase·tree, MatchCases·trees, AssignIdentifier·tree}
+use Rattle.mirror.specs.Tree.{AssignIdentifiers·trees}
+use Rattle.mirror.proofs.Decode.{read, fold, foldAll, Formal·at, Expr·absent, Expr·at, MatchCase·at, AssignIdentifier·at, Expr·reading, Expr·of}
+use Rattle.mirror.proofs.Decode.{Exprs·of, OptExpr·of, MatchCase·of, MatchCases·of, AssignIdentifier·of, AssignIdentifiers·of, Exprs·from, OptExpr·from}
+use Rattle.mirror.proofs.Decode.{MatchCases·from, AssignIdentifiers·from}
 use Rattle.records.proofs.Run.{Run, _⨾_}
-use Rattle.mirror.proofs.Rows.{Layer, Law, Codec, GoodAll, Case, refold, layer, plain, Plain, plain·codec, row, all-good, sure, kinds-right, seq-right, option-right, text·codec, kept·codec, option·codec, option·back, seq·codec, seq·back}
+use Rattle.mirror.proofs.Rows.{Layer, Law, Codec, GoodAll, Case, refold, layer, plain, Plain, plain·codec, row, all-good, sure, kinds-right, seq-right}
+use Rattle.mirror.proofs.Rows.{option-right, text·codec, kept·codec, option·codec, option·back, seq·codec, seq·back}
 use Rattle.mirror.proofs.Paths.{Path·back, Path·codec}
 use Rattle.mirror.proofs.Types.{Type·back, Types·back, Type·codec, Types·codec}
 
@@ -194,8 +201,12 @@ step r g =
       opt = option-right E anExpr (λ x. x .as′ .expr) None Some OptExpr·tree refl (λ x. refl) OptExpr·of (refold Expr·reading (λ k. OptExpr·from)) r g;
       case = kinds-right E MatchCase·tree MatchCase·at 0x81 0 (lit≤ tt) MatchCase·cases MatchCase·of (refold Expr·reading MatchCase·at) r g;
       cases = seq-right E aCase (λ x. x .as′ .case) []ᶜ _∷ᶜ_ MatchCases·trees refl (λ x s. refl) MatchCases·of (refold Expr·reading (λ k. MatchCases·from)) r g;
-      assign = kinds-right E AssignIdentifier·tree AssignIdentifier·at 0x82 0 (lit≤ tt) AssignIdentifier·cases AssignIdentifier·of (refold Expr·reading AssignIdentifier·at) r g;
-      assigns = seq-right E anAssign (λ x. x .as′ .assign) []ᵃ _∷ᵃ_ AssignIdentifiers·trees refl (λ x s. refl) AssignIdentifiers·of (refold Expr·reading (λ k. AssignIdentifiers·from)) r g;
+      assign =
+          kinds-right E AssignIdentifier·tree AssignIdentifier·at 0x82 0 (lit≤ tt) AssignIdentifier·cases AssignIdentifier·of
+          (refold Expr·reading AssignIdentifier·at) r g;
+      assigns =
+          seq-right E anAssign (λ x. x .as′ .assign) []ᵃ _∷ᵃ_ AssignIdentifiers·trees refl (λ x s. refl) AssignIdentifiers·of
+          (refold Expr·reading (λ k. AssignIdentifiers·from)) r g;
     }
 
 pub good : (r : Record) → Good r

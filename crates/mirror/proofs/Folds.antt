@@ -1,13 +1,19 @@
--- Fold over the record tree of a type or an expression is Fold over the type or the expression: whatever accumulates, and however (g) the one accumulator stands for the other. Assumes nothing.
+-- Fold over the record tree of a type or an expression is Fold over the type or the expression: whatever accumulates, and however (g) the one accumulator
+-- stands for the other. Assumes nothing.
 use mathlib.Core.Path.{_≡_, refl, ap, _∙_}
 use mathlib.Core.List.{List, [], _∷_}
 use mathlib.Core.Option.{Option, none, some}
 use mathlib.Core.Bool.{false}
 use Rattle.records.specs.Record.{Record}
 use Rattle.rast.specs.Fold.{Fold, FoldParts}
-use Rattle.mirror.specs.Rast.{string, Path, Global, Crate, Self, PMemberSelect, «Type», U8, U16, U32, U64, U128, I8, I16, I32, I64, I128, USIZE, Bool, TIdentifier, TypeFromPath, TypeApp, Borrowed, BorrowedMut, ImplType, DynType, TupleType, FnType, IntersectionType, Array, TSynonym, TMetaData, Types, []ᵗ, _∷ᵗ_, Formal, Formal′}
-use Rattle.mirror.specs.Rast.{Expr, RawExpr, ExprFromType, Identifier, Match, StmtExpr, Block, StructBuild, Tuple, UnaryOp, BinaryOp, TypeAscription, TraitCast, LiteralInt, LiteralBool, LiteralString, DeclareVar, Assign, IfExpr, Loop, For, Labelled, Break, Continue, Return, CallType, Call, Select, SelectIndex, ExprFromPath, FunctionSelect, Lambda}
-use Rattle.mirror.specs.Rast.{Exprs, []ᵉ, _∷ᵉ_, OptExpr, None, Some, MatchCase, MatchCase′, MatchCases, []ᶜ, _∷ᶜ_, AssignIdentifier, AssignIdentifier′, AssignIdentifiers, []ᵃ, _∷ᵃ_}
+use Rattle.mirror.specs.Rast.{string, Path, Global, Crate, Self, PMemberSelect, «Type», U8, U16, U32, U64, U128, I8, I16, I32, I64, I128, USIZE, Bool}
+use Rattle.mirror.specs.Rast.{TIdentifier, TypeFromPath, TypeApp, Borrowed, BorrowedMut, ImplType, DynType, TupleType, FnType, IntersectionType, Array}
+use Rattle.mirror.specs.Rast.{TSynonym, TMetaData, Types, []ᵗ, _∷ᵗ_, Formal, Formal′}
+use Rattle.mirror.specs.Rast.{Expr, RawExpr, ExprFromType, Identifier, Match, StmtExpr, Block, StructBuild, Tuple, UnaryOp, BinaryOp, TypeAscription}
+use Rattle.mirror.specs.Rast.{TraitCast, LiteralInt, LiteralBool, LiteralString, DeclareVar, Assign, IfExpr, Loop, For, Labelled, Break, Continue, Return}
+use Rattle.mirror.specs.Rast.{CallType, Call, Select, SelectIndex, ExprFromPath, FunctionSelect, Lambda}
+use Rattle.mirror.specs.Rast.{Exprs, []ᵉ, _∷ᵉ_, OptExpr, None, Some, MatchCase, MatchCase′, MatchCases, []ᶜ, _∷ᶜ_, AssignIdentifier, AssignIdentifier′}
+use Rattle.mirror.specs.Rast.{AssignIdentifiers, []ᵃ, _∷ᵃ_}
 use Rattle.mirror.specs.Fold.{Expr·Fold, Exprs·Fold, OptExpr·Fold, MatchCase·Fold, MatchCases·Fold, AssignIdentifier·Fold, AssignIdentifiers·Fold}
 use Rattle.mirror.specs.Tree.{Expr·tree, Exprs·trees, OptExpr·tree, MatchCase·tree, MatchCases·trees, AssignIdentifier·tree, AssignIdentifiers·trees}
 use Rattle.mirror.specs.Fold.{FoldLeft, FoldTypes, ifSome, Type·Fold, Types·Fold, Formal·Fold}
@@ -26,59 +32,61 @@ unfolding Fold
 fold-string f ft none acc = refl
 fold-string f ft (some n) acc = refl
 
-module _ {T S : Type 0} (g : S → T) (f ft : T → Record → T) (ft′ : S → «Type» → S) (ht : (acc : S) (t : «Type») → ft (g acc) (Type·tree t) ≡ g (ft′ acc t)) where
-  mutual
-    unfolding Fold Type·Fold Type·tree
+module _ {T S : Type 0} (g : S → T) (f ft : T → Record → T) (ft′ : S → «Type» → S) (ht : (acc : S) (t : «Type») → ft (g acc) (Type·tree t) ≡ g (ft′ acc t))
+  where
+    mutual
+      unfolding Fold Type·Fold Type·tree
 
-    pub fold-type : (t : «Type») (acc : S) → Fold f ft (g acc) (Type·tree t) ≡ g (Type·Fold ft′ t acc)
-    fold-type U8 acc = ht acc U8
-    fold-type U16 acc = ht acc U16
-    fold-type U32 acc = ht acc U32
-    fold-type U64 acc = ht acc U64
-    fold-type U128 acc = ht acc U128
-    fold-type I8 acc = ht acc I8
-    fold-type I16 acc = ht acc I16
-    fold-type I32 acc = ht acc I32
-    fold-type I64 acc = ht acc I64
-    fold-type I128 acc = ht acc I128
-    fold-type USIZE acc = ht acc USIZE
-    fold-type Bool acc = ht acc Bool
-    fold-type (TIdentifier name) acc = ht acc (TIdentifier name)
-    fold-type (TypeFromPath path) acc = rw fold-path (ht acc (TypeFromPath path))
-    fold-type (TypeApp t ts) acc = rw (ht acc (TypeApp t ts), fold-type t _) (fold-types ts _)
-    fold-type (Borrowed t) acc = rw (ht acc (Borrowed t)) (fold-type t _)
-    fold-type (BorrowedMut t) acc = rw (ht acc (BorrowedMut t)) (fold-type t _)
-    fold-type (ImplType t) acc = rw (ht acc (ImplType t)) (fold-type t _)
-    fold-type (DynType t) acc = rw (ht acc (DynType t)) (fold-type t _)
-    fold-type (TupleType ts) acc = rw (ht acc (TupleType ts)) (fold-types ts _)
-    fold-type (FnType ts t) acc = rw (ht acc (FnType ts t), fold-types ts _) (fold-type t _)
-    fold-type (IntersectionType t u) acc = rw (ht acc (IntersectionType t u), fold-type t _) (fold-type u _)
-    fold-type (Array t size) acc = rw (ht acc (Array t size), fold-string f ft size _) (fold-type t _)
-    fold-type (TSynonym t u) acc = rw (ht acc (TSynonym t u)) (fold-type t _)
-    fold-type (TMetaData t c o) acc = rw (ht acc (TMetaData t c o)) (fold-type t _)
+      pub fold-type : (t : «Type») (acc : S) → Fold f ft (g acc) (Type·tree t) ≡ g (Type·Fold ft′ t acc)
+      fold-type U8 acc = ht acc U8
+      fold-type U16 acc = ht acc U16
+      fold-type U32 acc = ht acc U32
+      fold-type U64 acc = ht acc U64
+      fold-type U128 acc = ht acc U128
+      fold-type I8 acc = ht acc I8
+      fold-type I16 acc = ht acc I16
+      fold-type I32 acc = ht acc I32
+      fold-type I64 acc = ht acc I64
+      fold-type I128 acc = ht acc I128
+      fold-type USIZE acc = ht acc USIZE
+      fold-type Bool acc = ht acc Bool
+      fold-type (TIdentifier name) acc = ht acc (TIdentifier name)
+      fold-type (TypeFromPath path) acc = rw fold-path (ht acc (TypeFromPath path))
+      fold-type (TypeApp t ts) acc = rw (ht acc (TypeApp t ts), fold-type t _) (fold-types ts _)
+      fold-type (Borrowed t) acc = rw (ht acc (Borrowed t)) (fold-type t _)
+      fold-type (BorrowedMut t) acc = rw (ht acc (BorrowedMut t)) (fold-type t _)
+      fold-type (ImplType t) acc = rw (ht acc (ImplType t)) (fold-type t _)
+      fold-type (DynType t) acc = rw (ht acc (DynType t)) (fold-type t _)
+      fold-type (TupleType ts) acc = rw (ht acc (TupleType ts)) (fold-types ts _)
+      fold-type (FnType ts t) acc = rw (ht acc (FnType ts t), fold-types ts _) (fold-type t _)
+      fold-type (IntersectionType t u) acc = rw (ht acc (IntersectionType t u), fold-type t _) (fold-type u _)
+      fold-type (Array t size) acc = rw (ht acc (Array t size), fold-string f ft size _) (fold-type t _)
+      fold-type (TSynonym t u) acc = rw (ht acc (TSynonym t u)) (fold-type t _)
+      fold-type (TMetaData t c o) acc = rw (ht acc (TMetaData t c o)) (fold-type t _)
 
-    pub fold-types : (ts : Types) (acc : S) → FoldParts f ft false (g acc) (Types·trees ts) ≡ g (Types·Fold ft′ ts acc)
-    fold-types []ᵗ acc = refl
-    fold-types (t ∷ᵗ ts) acc = rw (fold-type t acc) (fold-types ts _)
+      pub fold-types : (ts : Types) (acc : S) → FoldParts f ft false (g acc) (Types·trees ts) ≡ g (Types·Fold ft′ ts acc)
+      fold-types []ᵗ acc = refl
+      fold-types (t ∷ᵗ ts) acc = rw (fold-type t acc) (fold-types ts _)
 
-  -- the same of a seq of types that FoldLeft goes over, of an Option<Type> and of formals
-  types-fold : (ts : Types) (acc : S) → Types·Fold ft′ ts acc ≡ FoldTypes (λ acc t. Type·Fold ft′ t acc) acc ts
-  unfolding Type·Fold FoldTypes
-  types-fold []ᵗ acc = refl
-  types-fold (t ∷ᵗ ts) acc = types-fold ts _
+    -- the same of a seq of types that FoldLeft goes over, of an Option<Type> and of formals
+    types-fold : (ts : Types) (acc : S) → Types·Fold ft′ ts acc ≡ FoldTypes (λ acc t. Type·Fold ft′ t acc) acc ts
+    unfolding Type·Fold FoldTypes
+    types-fold []ᵗ acc = refl
+    types-fold (t ∷ᵗ ts) acc = types-fold ts _
 
-  pub fold-left-types : (ts : Types) (acc : S) → FoldParts f ft false (g acc) (Types·trees ts) ≡ g (FoldTypes (λ acc t. Type·Fold ft′ t acc) acc ts)
-  fold-left-types ts acc = fold-types ts acc ∙ ap g (types-fold ts acc)
+    pub fold-left-types : (ts : Types) (acc : S) → FoldParts f ft false (g acc) (Types·trees ts) ≡ g (FoldTypes (λ acc t. Type·Fold ft′ t acc) acc ts)
+    fold-left-types ts acc = fold-types ts acc ∙ ap g (types-fold ts acc)
 
-  pub fold-option-type : (o : Option «Type») (acc : S) → Fold f ft (g acc) (option Type·tree o) ≡ g (ifSome o acc (λ value. Type·Fold ft′ value acc))
-  unfolding Fold
-  fold-option-type none acc = refl
-  fold-option-type (some t) acc = fold-type t acc
+    pub fold-option-type : (o : Option «Type») (acc : S) → Fold f ft (g acc) (option Type·tree o) ≡ g (ifSome o acc (λ value. Type·Fold ft′ value acc))
+    unfolding Fold
+    fold-option-type none acc = refl
+    fold-option-type (some t) acc = fold-type t acc
 
-  pub fold-formals : (ps : List Formal) (acc : S) → FoldParts f ft false (g acc) (trees Formal·tree ps) ≡ g (FoldLeft (λ acc param. Formal·Fold ft′ param acc) acc ps)
-  unfolding Fold FoldLeft trees Formal·tree
-  fold-formals [] acc = refl
-  fold-formals (Formal′ n t ∷ ps) acc = rw (fold-type t acc) (fold-formals ps _)
+    pub fold-formals : (ps : List Formal) (acc : S)
+        → FoldParts f ft false (g acc) (trees Formal·tree ps) ≡ g (FoldLeft (λ acc param. Formal·Fold ft′ param acc) acc ps)
+    unfolding Fold FoldLeft trees Formal·tree
+    fold-formals [] acc = refl
+    fold-formals (Formal′ n t ∷ ps) acc = rw (fold-type t acc) (fold-formals ps _)
 
 module _ {T S : Type 0} (g : S → T) (f ft : T → Record → T) (f′ : S → Expr → S) (ft′ : S → «Type» → S)
     (hf : (acc : S) (e : Expr) → f (g acc) (Expr·tree e) ≡ g (f′ acc e)) (ht : (acc : S) (t : «Type») → ft (g acc) (Type·tree t) ≡ g (ft′ acc t)) where
@@ -139,6 +147,7 @@ module _ {T S : Type 0} (g : S → T) (f ft : T → Record → T) (f′ : S → 
     pub fold-assign : (a : AssignIdentifier) (acc : S) → Fold f ft (g acc) (AssignIdentifier·tree a) ≡ g (AssignIdentifier·Fold f′ ft′ a acc)
     fold-assign (AssignIdentifier′ n e) acc = fold-expr e acc
 
-    pub fold-assigns : (as′ : AssignIdentifiers) (acc : S) → FoldParts f ft false (g acc) (AssignIdentifiers·trees as′) ≡ g (AssignIdentifiers·Fold f′ ft′ as′ acc)
+    pub fold-assigns : (as′ : AssignIdentifiers) (acc : S)
+        → FoldParts f ft false (g acc) (AssignIdentifiers·trees as′) ≡ g (AssignIdentifiers·Fold f′ ft′ as′ acc)
     fold-assigns []ᵃ acc = refl
     fold-assigns (a ∷ᵃ as′) acc = rw (fold-assign a acc) (fold-assigns as′ _)

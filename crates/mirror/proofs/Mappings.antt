@@ -8,8 +8,10 @@ use lib.Dec.{eqb}
 use Rattle.wire.specs.Numbers.{sameBytes}
 use Rattle.records.specs.Record.{_▸_}
 use Rattle.rast.specs.Path.{samePath, whether}
+use Rattle.rast.specs.Final.{UniqueElementOf, isAmong, finalPath}
 use Rattle.rast.specs.Operation.{upstream}
-use Rattle.factor_paths.specs.Mapping.{Entry, entry, Mapping, Provenance, FinalReplacement, get, set, _among_, include, Add, UniqueElementOf, final, ToFinalReplacement, ToUseStatements, useDecl}
+use Rattle.factor_paths.specs.Mapping.{Entry, entry, Mapping, Provenance, FinalReplacement, get, set, _among_, include, Add, final, ToFinalReplacement}
+use Rattle.factor_paths.specs.Mapping.{ToUseStatements, useDecl}
 use Rattle.mirror.specs.Rast.{string, Path, Global, Crate, Self, PMemberSelect, Use′, UseDecl, ModDecls, _∷ᵐ_}
 use Rattle.mirror.specs.FactorPaths as Text
 use Rattle.mirror.specs.Tree.{Path·tree, Use·tree, ModDecls·trees}
@@ -59,7 +61,7 @@ module _ {A B : Type 0} (h : A → B) where
       rw (set-other k a es) (past-cond (map (other h)) (sameBytes (e .name) k) (entry (e .name) a ∷ es) (e ∷ Text.set k a es))
 
 pub among-trees : (p : Path) (qs : List Path) → _among_ upstream (Path·tree p) (map Path·tree qs) ≡ Text._among_ p qs
-unfolding _among_ Text._among_
+unfolding isAmong Text._among_
 among-trees p [] = refl
 among-trees p (q ∷ qs) = ap₂ _||_ (same-path p q) (among-trees p qs)
 
@@ -75,7 +77,8 @@ trees-of es = map (other (map Path·tree)) es
 abbrev pub mapping : Text.Mapping → Mapping
 mapping m = record { provenance = trees-of (m .provenance); keys = m .keys }
 
-with-provenance : {a b : Provenance} (ks : List string) → a ≡ b → _≡_ {A = Mapping} (record { provenance = a; keys = ks }) (record { provenance = b; keys = ks })
+with-provenance : {a b : Provenance} (ks : List string) → a ≡ b
+    → _≡_ {A = Mapping} (record { provenance = a; keys = ks }) (record { provenance = b; keys = ks })
 with-provenance ks e = λ i. record { provenance = e i; keys = ks }
 
 pub add-tree : (m : Text.Mapping) (k : string) (p : Path) → Add upstream (mapping m) k (Path·tree p) ≡ mapping (Text.Add m k p)
@@ -96,7 +99,7 @@ add-tree m k p = rw (get-other (map Path·tree) k (m .provenance)) (go (Text.get
 abbrev pub final-trees : Text.FinalReplacement → FinalReplacement
 final-trees es = map (other Path·tree) es
 
-unique-tree : (ps : List Path) → UniqueElementOf (map Path·tree ps) ≡ Path·tree (Text.UniqueElementOf ps)
+unique-tree : (ps : List Path) → UniqueElementOf (Path·tree Text.«dafny_runtime») (map Path·tree ps) ≡ Path·tree (Text.UniqueElementOf ps)
 unfolding Path·tree
 unique-tree [] = refl
 unique-tree (p ∷ ps) = refl
@@ -106,25 +109,31 @@ unfolding Path·tree
 runtime-tree = refl
 
 chosen-tree : (one self run : 𝔹) (p u d : Path) (n : string) (others : Text.FinalReplacement) →
-    cond (one || self || run) (entry n (cond one (Path·tree u) (cond self (Path·tree p) (Path·tree d))) ∷ final-trees others) (final-trees others)
+    whether (cond (one || self || run) (some (cond one (Path·tree u) (cond self (Path·tree p) (Path·tree d)))) none) (final-trees others)
+    (λ q. entry n q ∷ final-trees others)
     ≡ final-trees (cond (one || self || run) (entry n (cond one u (cond self p d)) ∷ others) others)
 chosen-tree true self run p u d n others = refl
 chosen-tree false true run p u d n others = refl
 chosen-tree false false true p u d n others = refl
 chosen-tree false false false p u d n others = refl
 
-final-tree : (p : Path) (e : Entry (List Path)) (others : Text.FinalReplacement) → final upstream (Path·tree p) (other (map Path·tree) e) (final-trees others) ≡ final-trees (Text.final p e others)
-unfolding Path·tree
+final-tree : (p : Path) (e : Entry (List Path)) (others : Text.FinalReplacement)
+    → final upstream (Path·tree p) (other (map Path·tree) e) (final-trees others) ≡ final-trees (Text.final p e others)
+unfolding Path·tree finalPath
 final-tree p e others =
     rw (length-map (e .held) Path·tree, among-trees p (e .held), among-trees Text.«dafny_runtime» (e .held), unique-tree (e .held))
-    (chosen-tree (eqb (length (e .held)) 1) (Text._among_ p (e .held)) (Text._among_ Text.«dafny_runtime» (e .held)) p (Text.UniqueElementOf (e .held)) Text.«dafny_runtime» (e .name) others)
+    (chosen-tree (eqb (length (e .held)) 1) (Text._among_ p (e .held)) (Text._among_ Text.«dafny_runtime» (e .held)) p (Text.UniqueElementOf (e .held))
+    Text.«dafny_runtime» (e .name) others)
 
-pub to-final-tree : (p : Path) (es : List (Entry (List Path))) → ToFinalReplacement upstream (trees-of es) (Path·tree p) ≡ final-trees (Text.ToFinalReplacement es p)
+pub to-final-tree : (p : Path) (es : List (Entry (List Path)))
+    → ToFinalReplacement upstream (trees-of es) (Path·tree p) ≡ final-trees (Text.ToFinalReplacement es p)
 unfolding ToFinalReplacement Text.ToFinalReplacement
 to-final-tree p [] = refl
-to-final-tree p (e ∷ es) = ap (λ (o : FinalReplacement). final upstream (Path·tree p) (other (map Path·tree) e) o) (to-final-tree p es) ∙ final-tree p e (Text.ToFinalReplacement es p)
+to-final-tree p (e ∷ es) =
+    ap (λ (o : FinalReplacement). final upstream (Path·tree p) (other (map Path·tree) e) o) (to-final-tree p es) ∙ final-tree p e (Text.ToFinalReplacement es p)
 
-pub to-use-tree : (ks : List string) (r : Text.FinalReplacement) (p : Path) → ToUseStatements upstream ks (final-trees r) (Path·tree p) ≡ ModDecls·trees (Text.ToUseStatements ks r p)
+pub to-use-tree : (ks : List string) (r : Text.FinalReplacement) (p : Path)
+    → ToUseStatements upstream ks (final-trees r) (Path·tree p) ≡ ModDecls·trees (Text.ToUseStatements ks r p)
 unfolding ToUseStatements Text.ToUseStatements ModDecls·trees Use·tree Path·tree
 to-use-tree [] r p = refl
 to-use-tree (k ∷ ks) r p = rw (to-use-tree ks r p, get-other Path·tree k r) (go (Text.get k r) (Text.ToUseStatements ks r p))

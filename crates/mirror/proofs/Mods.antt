@@ -6,12 +6,15 @@ use lib.Dec.{lit≤}
 use Rattle.records.specs.Record.{Record, children}
 use Rattle.records.specs.Kinds.{kinds, seq, mod′, rowOf}
 use Rattle.records.proofs.Fits.{Fits}
-use Rattle.mirror.specs.Rast.{Mod, Mod′, ExternMod, ModDecl, ModDecl′, StructDecl, TypeDecl, ConstDecl, EnumDecl, ImplDecl, TraitDecl, TopFnDecl′, UseDecl, ModDecls, []ᵐ, _∷ᵐ_}
+use Rattle.mirror.specs.Rast.{Mod, Mod′, ExternMod, ModDecl, ModDecl′, StructDecl, TypeDecl, ConstDecl, EnumDecl, ImplDecl, TraitDecl, TopFnDecl′}
+use Rattle.mirror.specs.Rast.{UseDecl, ModDecls, []ᵐ, _∷ᵐ_}
 use Rattle.mirror.specs.Tree.{list, Mod·tree, ModDecl·tree, ModDecls·trees}
 use Rattle.mirror.proofs.Decode.{fold, foldAll, Mod·absent, Mod·at, ModDecl·at, ModDecls·from, Mod·reading, Mod·of, ModDecl·of, ModDecls·of}
 use Rattle.records.proofs.Run.{Run, _⨾_}
-use Rattle.mirror.proofs.Rows.{Layer, Law, Codec, GoodAll, Case, refold, layer, row, all-good, sure, kinds-right, seq-right, text·codec, kept·codec, distinct, reached}
-use Rattle.mirror.proofs.Decls.{Struct·back, TypeSynonym·back, Constant·back, Enum·back, Impl·back, Trait·back, TopFnDecl·back, Use·back, Struct·codec, TypeSynonym·codec, Constant·codec, Enum·codec, Impl·codec, Trait·codec, TopFnDecl·codec, Use·codec}
+use Rattle.mirror.proofs.Rows.{Layer, Law, Codec, GoodAll, Case, refold, layer, row, all-good, sure, kinds-right, seq-right, text·codec, kept·codec}
+use Rattle.mirror.proofs.Rows.{distinct, reached}
+use Rattle.mirror.proofs.Decls.{Struct·back, TypeSynonym·back, Constant·back, Enum·back, Impl·back, Trait·back, TopFnDecl·back, Use·back, Struct·codec}
+use Rattle.mirror.proofs.Decls.{TypeSynonym·codec, Constant·codec, Enum·codec, Impl·codec, Trait·codec, TopFnDecl·codec, Use·codec}
 
 mutual
   unfolding fold foldAll Mod·at ModDecl·at Mod·tree ModDecl·tree ModDecls·trees

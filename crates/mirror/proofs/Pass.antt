@@ -12,20 +12,28 @@ use Rattle.rast.specs.Replacer.{ReplaceMod}
 use Rattle.factor_paths.specs.Mapping.{Mapping, FinalReplacement, Add}
 use Rattle.factor_paths.specs.PathsVisitor.{marked, unmarked, VisitTypeSingle, VisitExprSingle, VisitTraitName, VisitModDeclSingle, PathsVisitor}
 use Rattle.factor_paths.specs.Apply.{replaces, ReplaceTypeSingle, ReplaceExprSingle, PathSimplifier, mappings, pathsToRemove, imports, applyPrefix}
-use Rattle.mirror.specs.Rast.{string, Path, Global, Crate, Self, PMemberSelect, «Type», U8, U16, U32, U64, U128, I8, I16, I32, I64, I128, USIZE, Bool, TIdentifier, TypeFromPath, TypeApp, Borrowed, BorrowedMut, ImplType, DynType, TupleType, FnType, IntersectionType, Array, TSynonym, TMetaData}
-use Rattle.mirror.specs.Rast.{Expr, RawExpr, ExprFromType, Identifier, Match, StmtExpr, Block, StructBuild, Tuple, UnaryOp, BinaryOp, TypeAscription, TraitCast, LiteralInt, LiteralBool, LiteralString, DeclareVar, Assign, IfExpr, Loop, For, Labelled, Break, Continue, Return, CallType, Call, Select, SelectIndex, ExprFromPath, FunctionSelect, Lambda}
-use Rattle.mirror.specs.Rast.{Struct′, TypeSynonym′, Constant′, Enum′, Fn′, Trait′, TopFn, Mod, Mod′, ExternMod, ModDecl, ModDecl′, StructDecl, TypeDecl, ConstDecl, EnumDecl, ImplDecl, TraitDecl, TopFnDecl′, UseDecl, ModDecls}
+use Rattle.mirror.specs.Rast.{string, Path, Global, Crate, Self, PMemberSelect, «Type», U8, U16, U32, U64, U128, I8, I16, I32, I64, I128, USIZE, Bool}
+use Rattle.mirror.specs.Rast.{TIdentifier, TypeFromPath, TypeApp, Borrowed, BorrowedMut, ImplType, DynType, TupleType, FnType, IntersectionType, Array}
+use Rattle.mirror.specs.Rast.{TSynonym, TMetaData}
+use Rattle.mirror.specs.Rast.{Expr, RawExpr, ExprFromType, Identifier, Match, StmtExpr, Block, StructBuild, Tuple, UnaryOp, BinaryOp, TypeAscription}
+use Rattle.mirror.specs.Rast.{TraitCast, LiteralInt, LiteralBool, LiteralString, DeclareVar, Assign, IfExpr, Loop, For, Labelled, Break, Continue, Return}
+use Rattle.mirror.specs.Rast.{CallType, Call, Select, SelectIndex, ExprFromPath, FunctionSelect, Lambda}
+use Rattle.mirror.specs.Rast.{Struct′, TypeSynonym′, Constant′, Enum′, Fn′, Trait′, TopFn, Mod, Mod′, ExternMod, ModDecl, ModDecl′, StructDecl, TypeDecl}
+use Rattle.mirror.specs.Rast.{ConstDecl, EnumDecl, ImplDecl, TraitDecl, TopFnDecl′, UseDecl, ModDecls}
 use Rattle.mirror.specs.Visitor.{MSel, Mod·name}
 use Rattle.mirror.specs.Visitor as TextVisitor
 use Rattle.mirror.specs.Replacer as TextReplacer
 use Rattle.mirror.specs.FactorPaths as Text
-use Rattle.mirror.specs.Tree.{text, kept, list, Path·tree, Type·tree, Expr·tree, Struct·tree, TypeSynonym·tree, Constant·tree, Enum·tree, Fn·tree, Trait·tree, TopFnDecl·tree, Mod·tree, ModDecl·tree, ModDecls·trees}
+use Rattle.mirror.specs.Tree.{text, kept, list, Path·tree, Type·tree, Expr·tree, Struct·tree, TypeSynonym·tree, Constant·tree, Enum·tree, Fn·tree}
+use Rattle.mirror.specs.Tree.{Trait·tree, TopFnDecl·tree, Mod·tree, ModDecl·tree, ModDecls·trees}
 use Rattle.mirror.proofs.Mappings.{past-cond, same-path, get-other, mapping, add-tree, final-trees, to-final-tree, to-use-tree}
 use Rattle.mirror.proofs.Visits.{visit-mod}
 use Rattle.mirror.proofs.Replacements.{append-trees, name-tree, path-tree, replace-mod}
 
 -- PathsVisitor's single functions
-visit-selected : (acc : Text.Mapping) (k : string) (b : Path) → cond (Rattle.factor_paths.specs.Mapping.equal upstream (Path·tree b) Rattle.rast.specs.Path.Self) (mapping acc) (Add upstream (mapping acc) k (Path·tree b)) ≡ mapping (cond (Text.samePath b Self) acc (Text.Add acc k b))
+visit-selected : (acc : Text.Mapping) (k : string) (b : Path)
+    → cond (Rattle.factor_paths.specs.Mapping.equal upstream (Path·tree b) Rattle.rast.specs.Path.Self) (mapping acc)
+    (Add upstream (mapping acc) k (Path·tree b)) ≡ mapping (cond (Text.samePath b Self) acc (Text.Add acc k b))
 unfolding Path·tree
 visit-selected acc k b = rw (same-path b Self, add-tree acc k b) (past-cond mapping (Text.samePath b Self) acc (Text.Add acc k b))
 
@@ -60,7 +68,9 @@ visit-type-single acc (Array a b) = refl
 visit-type-single acc (TSynonym a b) = refl
 visit-type-single acc (TMetaData a b c) = refl
 
-visit-marked : (acc : Text.Mapping) (n : string) (b : Path) (t : 𝔹) → mapping (cond (Text.samePath b Self) acc (Text.Add acc (cond t (Text.unmarked n) n) b)) ≡ mapping (cond (Text.samePath b Self) acc (cond t (Text.Add acc (Text.unmarked n) b) (Text.Add acc n b)))
+visit-marked : (acc : Text.Mapping) (n : string) (b : Path) (t : 𝔹)
+    → mapping (cond (Text.samePath b Self) acc (Text.Add acc (cond t (Text.unmarked n) n) b))
+    ≡ mapping (cond (Text.samePath b Self) acc (cond t (Text.Add acc (Text.unmarked n) b) (Text.Add acc n b)))
 visit-marked acc n b true = refl
 visit-marked acc n b false = refl
 
@@ -101,7 +111,9 @@ visit-expr-single acc (ExprFromPath (PMemberSelect b n)) = visit-selected acc (c
 visit-expr-single acc (FunctionSelect a b) = refl
 visit-expr-single acc (Lambda a b c) = refl
 
-visit-identifier : (acc : Text.Mapping) (t : «Type») (p : Path) → cond (is 0x2C (Type·tree t)) (Add upstream (mapping acc) (Rattle.records.specs.Record.text (field 0 (Type·tree t))) (Path·tree p)) (mapping acc) ≡ mapping (Text.addIdentifier acc p (Text.typeCase t))
+visit-identifier : (acc : Text.Mapping) (t : «Type») (p : Path)
+    → cond (is 0x2C (Type·tree t)) (Add upstream (mapping acc) (Rattle.records.specs.Record.text (field 0 (Type·tree t))) (Path·tree p)) (mapping acc)
+    ≡ mapping (Text.addIdentifier acc p (Text.typeCase t))
 unfolding Type·tree nth
 visit-identifier acc U8 p = refl
 visit-identifier acc U16 p = refl
@@ -129,7 +141,8 @@ visit-identifier acc (Array a b) p = refl
 visit-identifier acc (TSynonym a b) p = refl
 visit-identifier acc (TMetaData a b c) p = refl
 
-visit-trait-name : (acc : Text.Mapping) (t : «Type») (p : Path) → VisitTraitName upstream (mapping acc) (Type·tree t) (Path·tree p) ≡ mapping (Text.addTrait acc p (Text.typeCase t))
+visit-trait-name : (acc : Text.Mapping) (t : «Type») (p : Path)
+    → VisitTraitName upstream (mapping acc) (Type·tree t) (Path·tree p) ≡ mapping (Text.addTrait acc p (Text.typeCase t))
 unfolding VisitTraitName Type·tree nth
 visit-trait-name acc U8 p = refl
 visit-trait-name acc U16 p = refl
@@ -157,7 +170,8 @@ visit-trait-name acc (Array a b) p = refl
 visit-trait-name acc (TSynonym a b) p = refl
 visit-trait-name acc (TMetaData a b c) p = refl
 
-visit-decl-single : (acc : Text.Mapping) (d : ModDecl) (p : Path) → VisitModDeclSingle upstream (mapping acc) (ModDecl·tree d) (Path·tree p) ≡ mapping (Text.VisitModDeclSingle acc d p)
+visit-decl-single : (acc : Text.Mapping) (d : ModDecl) (p : Path)
+    → VisitModDeclSingle upstream (mapping acc) (ModDecl·tree d) (Path·tree p) ≡ mapping (Text.VisitModDeclSingle acc d p)
 unfolding VisitModDeclSingle Text.VisitModDeclSingle ModDecl·tree Struct·tree TypeSynonym·tree Constant·tree Enum·tree Trait·tree TopFnDecl·tree Fn·tree nth
 visit-decl-single acc (ModDecl′ m) p = rw (name-tree m) (add-tree acc (Mod·name m) p)
 visit-decl-single acc (StructDecl (Struct′ d a n ps fs)) p = add-tree acc n p
@@ -170,20 +184,26 @@ visit-decl-single acc (TopFnDecl′ (TopFn d a k (Fn′ n ps fs t e))) p = add-t
 visit-decl-single acc (UseDecl u) p = refl
 
 -- what is collected of a module, in order
-pub collected : (m : Mod) (p : Path) → mappings upstream (Mod·tree m) (Path·tree p) ≡ mapping (TextVisitor.VisitMod Text.PathsVisitor m (record { provenance = []; keys = [] }) p)
+pub collected : (m : Mod) (p : Path)
+    → mappings upstream (Mod·tree m) (Path·tree p) ≡ mapping (TextVisitor.VisitMod Text.PathsVisitor m (record { provenance = []; keys = [] }) p)
 unfolding mappings
-collected m p = visit-mod mapping (PathsVisitor upstream) Text.PathsVisitor visit-type-single visit-expr-single visit-decl-single refl m (record { provenance = []; keys = [] }) p
+collected m p =
+    visit-mod mapping (PathsVisitor upstream) Text.PathsVisitor visit-type-single visit-expr-single visit-decl-single refl m
+    (record { provenance = []; keys = [] }) p
 
 -- PathSimplifier's single functions
 replaces-tree : (r : Text.FinalReplacement) (k : string) (b : Path) → replaces upstream (final-trees r) k (Path·tree b) ≡ Text.replaces r k b
 unfolding replaces Text.replaces
 replaces-tree r k b = rw (get-other Path·tree k r) (go (Text.get k r))
   where
-    go : (o : Option Path) → whether (Option·map Path·tree o) false (λ p. Rattle.factor_paths.specs.Mapping.equal upstream p (Path·tree b)) ≡ Text.whether o false (λ p. Text.samePath p b)
+    go : (o : Option Path)
+        → whether (Option·map Path·tree o) false (λ p. Rattle.factor_paths.specs.Mapping.equal upstream p (Path·tree b))
+        ≡ Text.whether o false (λ p. Text.samePath p b)
     go none = refl
     go (some q) = same-path q b
 
-replace-type-single : (r : Text.FinalReplacement) (t : «Type») → ReplaceTypeSingle upstream (final-trees r) (Type·tree t) ≡ Type·tree (Text.ReplaceTypeSingle r t)
+replace-type-single : (r : Text.FinalReplacement) (t : «Type»)
+    → ReplaceTypeSingle upstream (final-trees r) (Type·tree t) ≡ Type·tree (Text.ReplaceTypeSingle r t)
 unfolding ReplaceTypeSingle Text.ReplaceTypeSingle Type·tree Path·tree nth
 replace-type-single r U8 = refl
 replace-type-single r U16 = refl
@@ -201,7 +221,9 @@ replace-type-single r (TIdentifier a) = refl
 replace-type-single r (TypeFromPath Global) = refl
 replace-type-single r (TypeFromPath Crate) = refl
 replace-type-single r (TypeFromPath Self) = refl
-replace-type-single r (TypeFromPath (PMemberSelect b n)) = rw (replaces-tree r n b) (past-cond Type·tree (Text.replaces r n b) (TSynonym (TIdentifier n) (TypeFromPath (PMemberSelect b n))) (TypeFromPath (PMemberSelect b n)))
+replace-type-single r (TypeFromPath (PMemberSelect b n)) =
+    rw (replaces-tree r n b) (past-cond Type·tree (Text.replaces r n b) (TSynonym (TIdentifier n) (TypeFromPath (PMemberSelect b n)))
+    (TypeFromPath (PMemberSelect b n)))
 replace-type-single r (TypeApp a b) = refl
 replace-type-single r (Borrowed a) = refl
 replace-type-single r (BorrowedMut a) = refl
@@ -214,7 +236,8 @@ replace-type-single r (Array a b) = refl
 replace-type-single r (TSynonym a b) = refl
 replace-type-single r (TMetaData a b c) = refl
 
-marked-tree : (t u : 𝔹) (n : string) (e : Expr) → cond t (Expr·tree (Identifier n)) (cond u (Expr·tree (Identifier n)) (Expr·tree e)) ≡ Expr·tree (cond t (Identifier n) (cond u (Identifier n) e))
+marked-tree : (t u : 𝔹) (n : string) (e : Expr)
+    → cond t (Expr·tree (Identifier n)) (cond u (Expr·tree (Identifier n)) (Expr·tree e)) ≡ Expr·tree (cond t (Identifier n) (cond u (Identifier n) e))
 marked-tree true u n e = refl
 marked-tree false true n e = refl
 marked-tree false false n e = refl
@@ -224,10 +247,17 @@ and-cond true u a b = refl
 and-cond false u a b = refl
 
 replace-selected : (r : Text.FinalReplacement) (n : string) (b : Path) →
-    cond (replaces upstream (final-trees r) n (Path·tree b)) (Expr·tree (Identifier n)) (cond (marked n && replaces upstream (final-trees r) (unmarked n) (Path·tree b)) (Expr·tree (Identifier n)) (Expr·tree (ExprFromPath (PMemberSelect b n))))
-    ≡ Expr·tree (cond (Text.replaces r n b) (Identifier n) (cond (Text.marked n) (cond (Text.replaces r (Text.unmarked n) b) (Identifier n) (ExprFromPath (PMemberSelect b n))) (ExprFromPath (PMemberSelect b n))))
+    cond (replaces upstream (final-trees r) n (Path·tree b)) (Expr·tree (Identifier n))
+    (cond (marked n && replaces upstream (final-trees r) (unmarked n) (Path·tree b)) (Expr·tree (Identifier n)) (Expr·tree (ExprFromPath (PMemberSelect b n))))
+    ≡ Expr·tree (cond (Text.replaces r n b) (Identifier n) (cond (Text.marked n)
+    (cond (Text.replaces r (Text.unmarked n) b) (Identifier n) (ExprFromPath (PMemberSelect b n))) (ExprFromPath (PMemberSelect b n))))
 replace-selected r n b =
-    rw (replaces-tree r n b, replaces-tree r (unmarked n) b, ← and-cond (Text.marked n) (Text.replaces r (Text.unmarked n) b) (Identifier n) (ExprFromPath (PMemberSelect b n)))
+    rw (
+      replaces-tree r n b,
+      replaces-tree r (unmarked n) b,
+      ← and-cond (Text.marked n) (Text.replaces r (Text.unmarked n) b) (Identifier n)
+          (ExprFromPath (PMemberSelect b n)),
+    )
     (marked-tree (Text.replaces r n b) (Text.marked n && Text.replaces r (Text.unmarked n) b) n (ExprFromPath (PMemberSelect b n)))
 
 replace-expr-single : (r : Text.FinalReplacement) (e : Expr) → ReplaceExprSingle upstream (final-trees r) (Expr·tree e) ≡ Expr·tree (Text.ReplaceExprSingle r e)
@@ -288,20 +318,25 @@ unfolding Mod·tree setNth
 with-imports-tree is (Mod′ d a n ds) = ap (λ c. node 0x60 (text d ▸ kept a ▸ text n ▸ list c ▸ nil)) (append-trees is ds)
 with-imports-tree is (ExternMod n) = refl
 
-simplified-tree : (f : Record → Record → Record) (f′ : Mod → Path → Mod) → ((m : Mod) (p : Path) → f (Mod·tree m) (Path·tree p) ≡ Mod·tree (f′ m p)) → (r : Text.FinalReplacement) (m : Mod) (p : Path) →
-    ReplaceMod upstream (PathSimplifier upstream f (final-trees r)) (Mod·tree m) (Path·tree p) ≡ Mod·tree (TextReplacer.ReplaceMod (Text.PathSimplifier f′ r) m p)
+simplified-tree : (f : Record → Record → Record) (f′ : Mod → Path → Mod) → ((m : Mod) (p : Path) → f (Mod·tree m) (Path·tree p) ≡ Mod·tree (f′ m p))
+    → (r : Text.FinalReplacement) (m : Mod) (p : Path) →
+    ReplaceMod upstream (PathSimplifier upstream f (final-trees r)) (Mod·tree m) (Path·tree p)
+    ≡ Mod·tree (TextReplacer.ReplaceMod (Text.PathSimplifier f′ r) m p)
 unfolding PathSimplifier Text.PathSimplifier
 simplified-tree f f′ h r m p =
     replace-mod upstream refl (PathSimplifier upstream f (final-trees r)) (Text.PathSimplifier f′ r) single (replace-type-single r) (replace-expr-single r) m p
   where
-    single : (m : Mod) (p : Path) → f (Mod·tree m) (Rattle.rast.specs.Path.MSel (Path·tree p) (Rattle.rast.specs.Mod.nameOf (Mod·tree m))) ≡ Mod·tree (f′ m (MSel p (Mod·name m)))
+    single : (m : Mod) (p : Path)
+        → f (Mod·tree m) (Rattle.rast.specs.Path.MSel (Path·tree p) (Rattle.rast.specs.Mod.nameOf (Mod·tree m))) ≡ Mod·tree (f′ m (MSel p (Mod·name m)))
     single m p = ap (f (Mod·tree m)) (path-tree p m) ∙ h m (MSel p (Mod·name m))
 
 -- one module, if the modules in it come out as the text's do
-prefix-step : (f : Record → Record → Record) (f′ : Mod → Path → Mod) → ((m : Mod) (p : Path) → f (Mod·tree m) (Path·tree p) ≡ Mod·tree (f′ m p)) → (m : Mod) (p : Path) →
+prefix-step : (f : Record → Record → Record) (f′ : Mod → Path → Mod) → ((m : Mod) (p : Path) → f (Mod·tree m) (Path·tree p) ≡ Mod·tree (f′ m p))
+    → (m : Mod) (p : Path) →
     update 3 (λ body. put (imports upstream (Mod·tree m) (Path·tree p) ▸▸ children body) body)
     (ReplaceMod upstream (PathSimplifier upstream f (pathsToRemove upstream (Mod·tree m) (Path·tree p))) (Mod·tree m) (Path·tree p))
-    ≡ Mod·tree (Text.withImports (Text.ToUseStatements (mappings′ m p .keys) (removed′ m p) p) (TextReplacer.ReplaceMod (Text.PathSimplifier f′ (removed′ m p)) m p))
+    ≡ Mod·tree (Text.withImports (Text.ToUseStatements (mappings′ m p .keys) (removed′ m p) p)
+    (TextReplacer.ReplaceMod (Text.PathSimplifier f′ (removed′ m p)) m p))
 prefix-step f f′ h m p = rw (imports-tree m p, removed-tree m p, simplified-tree f f′ h (removed′ m p) m p) (with-imports-tree _ _)
 
 pub apply-prefix : (n : ℕ) (m : Mod) (p : Path) → applyPrefix upstream n (Mod·tree m) (Path·tree p) ≡ Mod·tree (Text.applyPrefix n m p)

@@ -1,4 +1,5 @@
--- The replacer over the record tree of a module gives the record tree of what the text's replacer gives, if their single functions agree so and ReplaceFn walks again. Assumes nothing.
+-- The replacer over the record tree of a module gives the record tree of what the text's replacer gives, if their single functions agree so and ReplaceFn walks
+-- again. Assumes nothing.
 use mathlib.Core.Path.{_≡_, refl, ap, ap₂, _∙_}
 use mathlib.Core.List.{List, [], _∷_, map}
 use mathlib.Core.Option.{Option, none, some, Option·map}
@@ -7,16 +8,25 @@ use Rattle.records.specs.Record.{Record, node, nil, _▸_, _▸▸_, FoldLeft, 
 use Rattle.rast.specs.Operation.{Operation}
 use Rattle.rast.specs.Mod.{Mod·Fold}
 use Rattle.rast.specs.Replace.{Replace}
-use Rattle.rast.specs.Replacer.{RASTBottomUpReplacer, ReplaceType, ReplaceExpr, ReplaceFields, ReplaceTypeParams, ReplaceFn, ReplaceImplMember, ReplaceBody, ReplaceUse, ReplaceTopFn, ReplaceTrait, ReplaceImplDecl, ReplaceEnumCase, ReplaceEnum, ReplaceConst, ReplaceTypeDecl, ReplaceStruct, ReplaceModDecl, ReplaceMod}
-use Rattle.mirror.specs.Rast.{string, Path, «Type», Types, []ᵗ, _∷ᵗ_, Formal, Formal′, Expr, TypeParamDecl, TypeParamDecl′, Field, Field′, NamelessField, NamelessField′, Fields, NamedFields, NamelessFields, Struct, Struct′, TypeSynonym, TypeSynonym′, Constant, Constant′, EnumCase, EnumCase′, Enum, Enum′, Fn, Fn′, ImplMember, RawImplMember, TypeDeclMember, FnDecl, ImplMemberMacro, Impl, ImplFor, Impl′, Trait, Trait′, TopFnDecl, TopFn, Use, Use′}
-use Rattle.mirror.specs.Rast.{Mod, Mod′, ExternMod, ModDecl, ModDecl′, StructDecl, TypeDecl, ConstDecl, EnumDecl, ImplDecl, TraitDecl, TopFnDecl′, UseDecl, ModDecls, []ᵐ, _∷ᵐ_}
+use Rattle.rast.specs.Replacer.{RASTBottomUpReplacer, ReplaceType, ReplaceExpr, ReplaceFields, ReplaceTypeParams, ReplaceFn, ReplaceImplMember, ReplaceBody}
+use Rattle.rast.specs.Replacer.{ReplaceUse, ReplaceTopFn, ReplaceTrait, ReplaceImplDecl, ReplaceEnumCase, ReplaceEnum, ReplaceConst, ReplaceTypeDecl}
+use Rattle.rast.specs.Replacer.{ReplaceStruct, ReplaceModDecl, ReplaceMod}
+use Rattle.mirror.specs.Rast.{string, Path, «Type», Types, []ᵗ, _∷ᵗ_, Formal, Formal′, Expr, TypeParamDecl, TypeParamDecl′, Field, Field′, NamelessField}
+use Rattle.mirror.specs.Rast.{NamelessField′, Fields, NamedFields, NamelessFields, Struct, Struct′, TypeSynonym, TypeSynonym′, Constant, Constant′}
+use Rattle.mirror.specs.Rast.{EnumCase, EnumCase′, Enum, Enum′, Fn, Fn′, ImplMember, RawImplMember, TypeDeclMember, FnDecl, ImplMemberMacro, Impl}
+use Rattle.mirror.specs.Rast.{ImplFor, Impl′, Trait, Trait′, TopFnDecl, TopFn, Use, Use′}
+use Rattle.mirror.specs.Rast.{Mod, Mod′, ExternMod, ModDecl, ModDecl′, StructDecl, TypeDecl, ConstDecl, EnumDecl, ImplDecl, TraitDecl, TopFnDecl′}
+use Rattle.mirror.specs.Rast.{UseDecl, ModDecls, []ᵐ, _∷ᵐ_}
 use Rattle.mirror.specs.Fold.{FoldModDecls}
 use Rattle.mirror.specs.Fold as TextFold
 use Rattle.mirror.specs.Replace as TextReplace
 use Rattle.mirror.specs.Visitor.{MSel, Mod·name}
 use Rattle.mirror.specs.Replacer.{_++ᵐ_}
 use Rattle.mirror.specs.Replacer as Text
-use Rattle.mirror.specs.Tree.{text, kept, list, trees, seq, option, typeParams·tree, Path·tree, Type·tree, Types·trees, Formal·tree, Expr·tree, TypeParamDecl·tree, Field·tree, NamelessField·tree, Fields·tree, Struct·tree, TypeSynonym·tree, Constant·tree, EnumCase·tree, Enum·tree, Fn·tree, ImplMember·tree, Impl·tree, Trait·tree, TopFnDecl·tree, Use·tree, Mod·tree, ModDecl·tree, ModDecls·trees}
+use Rattle.mirror.specs.Tree.{text, kept, list, trees, seq, option, typeParams·tree, Path·tree, Type·tree, Types·trees, Formal·tree, Expr·tree}
+use Rattle.mirror.specs.Tree.{TypeParamDecl·tree, Field·tree, NamelessField·tree, Fields·tree, Struct·tree, TypeSynonym·tree, Constant·tree}
+use Rattle.mirror.specs.Tree.{EnumCase·tree, Enum·tree, Fn·tree, ImplMember·tree, Impl·tree, Trait·tree, TopFnDecl·tree, Use·tree, Mod·tree, ModDecl·tree}
+use Rattle.mirror.specs.Tree.{ModDecls·trees}
 use Rattle.mirror.proofs.Replaces.{replace-type, replace-expr, replace-formal}
 
 -- Seq.Map over the records of a seq, of a seq of types, and of an Option
@@ -31,7 +41,8 @@ module _ {A : Type 0} (tree : A → Record) (f : Record → Record) (f′ : A �
   map-option none = refl
   map-option (some x) = ap (λ r. list (r ▸ nil)) (h x)
 
-map-types : (f : Record → Record) (f′ : «Type» → «Type») → ((t : «Type») → f (Type·tree t) ≡ Type·tree (f′ t)) → (ts : Types) → mapAll f (Types·trees ts) ≡ Types·trees (TextReplace.mapTypes f′ ts)
+map-types : (f : Record → Record) (f′ : «Type» → «Type») → ((t : «Type») → f (Type·tree t) ≡ Type·tree (f′ t)) → (ts : Types)
+    → mapAll f (Types·trees ts) ≡ Types·trees (TextReplace.mapTypes f′ ts)
 unfolding mapAll Types·trees TextReplace.mapTypes
 map-types f f′ h []ᵗ = refl
 map-types f f′ h (t ∷ᵗ ts) = ap₂ _▸_ (h t) (map-types f f′ h ts)
@@ -86,17 +97,24 @@ module _ (op : Operation) (again : op .walksAgain ≡ true) (r : RASTBottomUpRep
   unfolding ReplaceTypeParams Text.ReplaceTypeParams
   typeParams′ ps = ap list (map-seq TypeParamDecl·tree _ _ typeParam′ ps)
 
-  formals′ : (fs : List Formal) → mapAll (λ formal. Replace (λ e. e) (ReplaceType op r) formal) (trees Formal·tree fs) ≡ trees Formal·tree (map (λ f. TextReplace.Formal·Replace (Text.ReplaceType r′) f) fs)
+  formals′ : (fs : List Formal)
+      → mapAll (λ formal. Replace (λ e. e) (ReplaceType op r) formal) (trees Formal·tree fs)
+      ≡ trees Formal·tree (map (λ f. TextReplace.Formal·Replace (Text.ReplaceType r′) f) fs)
   formals′ fs = map-seq Formal·tree _ _ (replace-formal (λ e. e) (ReplaceType op r) (Text.ReplaceType r′) type′) fs
 
-  result′ : (o : Option «Type») → Map (λ t. Replace (λ e. e) (ReplaceType op r) t) (option Type·tree o) ≡ option Type·tree (Option·map (λ value. TextReplace.Type·Replace (Text.ReplaceType r′) value) o)
+  result′ : (o : Option «Type»)
+      → Map (λ t. Replace (λ e. e) (ReplaceType op r) t) (option Type·tree o)
+      ≡ option Type·tree (Option·map (λ value. TextReplace.Type·Replace (Text.ReplaceType r′) value) o)
   result′ o = map-option Type·tree _ _ (replace-type (λ e. e) (ReplaceType op r) (Text.ReplaceType r′) type′) o
 
-  fnBody′ : (o : Option Expr) → Map (λ e. Replace (ReplaceExpr op r) (ReplaceType op r) e) (option Expr·tree o) ≡ option Expr·tree (Option·map (λ value. TextReplace.Expr·Replace (Text.ReplaceExpr r′) (Text.ReplaceType r′) value) o)
+  fnBody′ : (o : Option Expr)
+      → Map (λ e. Replace (ReplaceExpr op r) (ReplaceType op r) e) (option Expr·tree o)
+      ≡ option Expr·tree (Option·map (λ value. TextReplace.Expr·Replace (Text.ReplaceExpr r′) (Text.ReplaceType r′) value) o)
   fnBody′ o = map-option Expr·tree _ _ (replace-expr (ReplaceExpr op r) (ReplaceType op r) (Text.ReplaceExpr r′) (Text.ReplaceType r′) expr′ type′) o
 
   -- what ReplaceFn gives if it hands on ft and f
-  handing : (ft f : Record → Record) → ft ≡ ReplaceType op r → f ≡ ReplaceExpr op r → (n : string) (ps : List TypeParamDecl) (fs : List Formal) (t : Option «Type») (e : Option Expr) →
+  handing : (ft f : Record → Record) → ft ≡ ReplaceType op r → f ≡ ReplaceExpr op r
+      → (n : string) (ps : List TypeParamDecl) (fs : List Formal) (t : Option «Type») (e : Option Expr) →
       node 0x7D (text n ▸ ReplaceTypeParams op r (typeParams·tree ps) ▸ list (mapAll (λ formal. Replace (λ e. e) ft formal) (trees Formal·tree fs))
       ▸ Map (λ t. Replace (λ e. e) ft t) (option Type·tree t) ▸ Map (λ e. Replace f ft e) (option Expr·tree e) ▸ nil)
       ≡ Fn·tree (Text.ReplaceFn r′ (Fn′ n ps fs t e))

@@ -1,14 +1,22 @@
--- Replace over the record tree of a type or an expression gives the record tree of what Replace gives: whatever functions are handed on, if they agree so. Assumes nothing.
+-- Replace over the record tree of a type or an expression gives the record tree of what Replace gives: whatever functions are handed on, if they agree so.
+-- Assumes nothing.
 use mathlib.Core.Path.{_≡_, refl, ap, ap₂}
 use mathlib.Core.List.{List, [], _∷_, map}
 use mathlib.Core.Option.{Option, none, some, Option·map}
 use Rattle.records.specs.Record.{Record, node, nil, _▸_}
 use Rattle.rast.specs.Replace.{Replace, ReplaceParts}
-use Rattle.mirror.specs.Rast.{string, Path, Global, Crate, Self, PMemberSelect, «Type», U8, U16, U32, U64, U128, I8, I16, I32, I64, I128, USIZE, Bool, TIdentifier, TypeFromPath, TypeApp, Borrowed, BorrowedMut, ImplType, DynType, TupleType, FnType, IntersectionType, Array, TSynonym, TMetaData, Types, []ᵗ, _∷ᵗ_, Formal, Formal′}
-use Rattle.mirror.specs.Rast.{Expr, RawExpr, ExprFromType, Identifier, Match, StmtExpr, Block, StructBuild, Tuple, UnaryOp, BinaryOp, TypeAscription, TraitCast, LiteralInt, LiteralBool, LiteralString, DeclareVar, Assign, IfExpr, Loop, For, Labelled, Break, Continue, Return, CallType, Call, Select, SelectIndex, ExprFromPath, FunctionSelect, Lambda}
-use Rattle.mirror.specs.Rast.{Exprs, []ᵉ, _∷ᵉ_, OptExpr, None, Some, MatchCase, MatchCase′, MatchCases, []ᶜ, _∷ᶜ_, AssignIdentifier, AssignIdentifier′, AssignIdentifiers, []ᵃ, _∷ᵃ_}
-use Rattle.mirror.specs.Replace.{mapTypes, Type·Replace, Types·Replace, Formal·Replace, Expr·Replace, Exprs·Replace, OptExpr·Replace, MatchCase·Replace, MatchCases·Replace, AssignIdentifier·Replace, AssignIdentifiers·Replace}
-use Rattle.mirror.specs.Tree.{text, kept, list, trees, option, Path·tree, Type·tree, Types·trees, Formal·tree, Expr·tree, Exprs·trees, OptExpr·tree, MatchCase·tree, MatchCases·trees, AssignIdentifier·tree, AssignIdentifiers·trees}
+use Rattle.mirror.specs.Rast.{string, Path, Global, Crate, Self, PMemberSelect, «Type», U8, U16, U32, U64, U128, I8, I16, I32, I64, I128, USIZE, Bool}
+use Rattle.mirror.specs.Rast.{TIdentifier, TypeFromPath, TypeApp, Borrowed, BorrowedMut, ImplType, DynType, TupleType, FnType, IntersectionType, Array}
+use Rattle.mirror.specs.Rast.{TSynonym, TMetaData, Types, []ᵗ, _∷ᵗ_, Formal, Formal′}
+use Rattle.mirror.specs.Rast.{Expr, RawExpr, ExprFromType, Identifier, Match, StmtExpr, Block, StructBuild, Tuple, UnaryOp, BinaryOp, TypeAscription}
+use Rattle.mirror.specs.Rast.{TraitCast, LiteralInt, LiteralBool, LiteralString, DeclareVar, Assign, IfExpr, Loop, For, Labelled, Break, Continue, Return}
+use Rattle.mirror.specs.Rast.{CallType, Call, Select, SelectIndex, ExprFromPath, FunctionSelect, Lambda}
+use Rattle.mirror.specs.Rast.{Exprs, []ᵉ, _∷ᵉ_, OptExpr, None, Some, MatchCase, MatchCase′, MatchCases, []ᶜ, _∷ᶜ_, AssignIdentifier, AssignIdentifier′}
+use Rattle.mirror.specs.Rast.{AssignIdentifiers, []ᵃ, _∷ᵃ_}
+use Rattle.mirror.specs.Replace.{mapTypes, Type·Replace, Types·Replace, Formal·Replace, Expr·Replace, Exprs·Replace, OptExpr·Replace, MatchCase·Replace}
+use Rattle.mirror.specs.Replace.{MatchCases·Replace, AssignIdentifier·Replace, AssignIdentifiers·Replace}
+use Rattle.mirror.specs.Tree.{text, kept, list, trees, option, Path·tree, Type·tree, Types·trees, Formal·tree, Expr·tree, Exprs·trees, OptExpr·tree}
+use Rattle.mirror.specs.Tree.{MatchCase·tree, MatchCases·trees, AssignIdentifier·tree, AssignIdentifiers·trees}
 
 -- a path and an Option<string> are left
 replace-path : (f ft : Record → Record) (p : Path) → Replace f ft (Path·tree p) ≡ Path·tree p
@@ -81,7 +89,8 @@ module _ (f ft : Record → Record) (ft′ : «Type» → «Type») (ht : (t : �
   replace-formals [] = refl
   replace-formals (p ∷ ps) = ap₂ _▸_ (replace-formal p) (replace-formals ps)
 
-module _ (f ft : Record → Record) (f′ : Expr → Expr) (ft′ : «Type» → «Type») (hf : (e : Expr) → f (Expr·tree e) ≡ Expr·tree (f′ e)) (ht : (t : «Type») → ft (Type·tree t) ≡ Type·tree (ft′ t)) where
+module _ (f ft : Record → Record) (f′ : Expr → Expr) (ft′ : «Type» → «Type») (hf : (e : Expr) → f (Expr·tree e) ≡ Expr·tree (f′ e))
+    (ht : (t : «Type») → ft (Type·tree t) ≡ Type·tree (ft′ t)) where
   abbrev ty : (t : «Type») → Replace f ft (Type·tree t) ≡ Type·tree (Type·Replace ft′ t)
   ty = replace-type f ft ft′ ht
 
@@ -139,6 +148,7 @@ module _ (f ft : Record → Record) (f′ : Expr → Expr) (ft′ : «Type» →
     pub replace-assign : (a : AssignIdentifier) → Replace f ft (AssignIdentifier·tree a) ≡ AssignIdentifier·tree (AssignIdentifier·Replace f′ ft′ a)
     replace-assign (AssignIdentifier′ n e) = ap (λ r. node 0x82 (text n ▸ r ▸ nil)) (replace-expr e)
 
-    pub replace-assigns : (as′ : AssignIdentifiers) → ReplaceParts f ft (AssignIdentifiers·trees as′) ≡ AssignIdentifiers·trees (AssignIdentifiers·Replace f′ ft′ as′)
+    pub replace-assigns : (as′ : AssignIdentifiers)
+        → ReplaceParts f ft (AssignIdentifiers·trees as′) ≡ AssignIdentifiers·trees (AssignIdentifiers·Replace f′ ft′ as′)
     replace-assigns []ᵃ = refl
     replace-assigns (a ∷ᵃ as′) = ap₂ _▸_ (replace-assign a) (replace-assigns as′)

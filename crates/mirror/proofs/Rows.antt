@@ -109,7 +109,8 @@ module _ (L : Layer) where
     abbrev pub Case : ℕ → Type 0
     Case k = (c : Records) → GoodAll c → FitsAll c (these (rowOf k)) → tree (at k (each (L .kid) c)) ≡ node k c
 
-    pub kinds-right : (from n : ℕ) → 4 ≤ from → Run Case from n → (of : Record → A) → ((k : ℕ) (c : Records) → of (node k c) ≡ at k (each (L .kid) c)) → (r : Record) → GoodAll (children r) → Fits r (kinds from (from + n)) → tree (of r) ≡ r
+    pub kinds-right : (from n : ℕ) → 4 ≤ from → Run Case from n → (of : Record → A) → ((k : ℕ) (c : Records) → of (node k c) ≡ at k (each (L .kid) c))
+        → (r : Record) → GoodAll (children r) → Fits r (kinds from (from + n)) → tree (of r) ≡ r
     unfolding Fits
     kinds-right from n low cases of of-is (leaf k b) g f =
         let h = within from (from + n) k (f .0) in
@@ -120,28 +121,33 @@ module _ (L : Layer) where
 
   -- a seq and an Option, over a law for what they hold
   module _ (l : Law L) {A S : Type 0} (of : L .Kid → A) (empty : S) where
-    module _ (more : A → S → S) (all : S → Records) (all-empty : all empty ≡ nil) (all-more : (x : L .Kid) (s : S) → all (more (of x) s) ≡ l .again x ▸ all s) where
-      gather-right : (c : Records) → GoodAll c → FitsAll c (any (l .place)) → all (gather empty more of (each (L .kid) c)) ≡ c
-      unfolding FitsAll
-      gather-right nil g f = all-empty
-      gather-right (r ▸ c) g f = all-more (L .kid r) (gather empty more of (each (L .kid) c)) ∙ (λ i. l .right r (g .0) (f .0) i ▸ gather-right c (g .1) (f .1) i)
+    module _ (more : A → S → S) (all : S → Records) (all-empty : all empty ≡ nil) (all-more : (x : L .Kid) (s : S) → all (more (of x) s) ≡ l .again x ▸ all s)
+      where
+        gather-right : (c : Records) → GoodAll c → FitsAll c (any (l .place)) → all (gather empty more of (each (L .kid) c)) ≡ c
+        unfolding FitsAll
+        gather-right nil g f = all-empty
+        gather-right (r ▸ c) g f =
+            all-more (L .kid r) (gather empty more of (each (L .kid) c)) ∙ (λ i. l .right r (g .0) (f .0) i ▸ gather-right c (g .1) (f .1) i)
 
-      pub seq-right : (read : Record → S) → ((k : ℕ) (c : Records) → read (node k c) ≡ gather empty more of (each (L .kid) c)) → (r : Record) → GoodAll (children r) → Fits r (seq (l .place)) → list (all (read r)) ≡ r
-      unfolding Fits contentAt
-      seq-right read read-is (leaf k b) g f = absurd (not-bytes (any (l .place)) (f .1))
-      seq-right read read-is (node k c) g f = rw (read-is k c) (ap list (gather-right c g (f .1)) ∙ ap (λ (k : ℕ). node k c) (sym (eqb-true k 0x02 (f .0))))
+        pub seq-right : (read : Record → S) → ((k : ℕ) (c : Records) → read (node k c) ≡ gather empty more of (each (L .kid) c)) → (r : Record)
+            → GoodAll (children r) → Fits r (seq (l .place)) → list (all (read r)) ≡ r
+        unfolding Fits contentAt
+        seq-right read read-is (leaf k b) g f = absurd (not-bytes (any (l .place)) (f .1))
+        seq-right read read-is (node k c) g f = rw (read-is k c) (ap list (gather-right c g (f .1)) ∙ ap (λ (k : ℕ). node k c) (sym (eqb-true k 0x02 (f .0))))
 
-    module _ (just : A → S) (tree : S → Record) (tree-empty : tree empty ≡ list nil) (tree-just : (x : L .Kid) → tree (just (of x)) ≡ list (l .again x ▸ nil)) where
-      at-most-right : (c : Records) → GoodAll c → FitsAll c (atMostOne (l .place)) → tree (atMost empty just of (each (L .kid) c)) ≡ list c
-      unfolding FitsAll
-      at-most-right nil g f = tree-empty
-      at-most-right (r ▸ nil) g f = tree-just (L .kid r) ∙ (λ i. list (l .right r (g .0) (f .0) i ▸ nil))
-      at-most-right (r ▸ s ▸ c) g f = absurd (f .1)
+    module _ (just : A → S) (tree : S → Record) (tree-empty : tree empty ≡ list nil) (tree-just : (x : L .Kid) → tree (just (of x)) ≡ list (l .again x ▸ nil))
+      where
+        at-most-right : (c : Records) → GoodAll c → FitsAll c (atMostOne (l .place)) → tree (atMost empty just of (each (L .kid) c)) ≡ list c
+        unfolding FitsAll
+        at-most-right nil g f = tree-empty
+        at-most-right (r ▸ nil) g f = tree-just (L .kid r) ∙ (λ i. list (l .right r (g .0) (f .0) i ▸ nil))
+        at-most-right (r ▸ s ▸ c) g f = absurd (f .1)
 
-      pub option-right : (read : Record → S) → ((k : ℕ) (c : Records) → read (node k c) ≡ atMost empty just of (each (L .kid) c)) → (r : Record) → GoodAll (children r) → Fits r (option (l .place)) → tree (read r) ≡ r
-      unfolding Fits contentAt
-      option-right read read-is (leaf k b) g f = absurd (not-bytes (atMostOne (l .place)) (f .1))
-      option-right read read-is (node k c) g f = rw (read-is k c) (at-most-right c g (f .1) ∙ ap (λ (k : ℕ). node k c) (sym (eqb-true k 0x02 (f .0))))
+        pub option-right : (read : Record → S) → ((k : ℕ) (c : Records) → read (node k c) ≡ atMost empty just of (each (L .kid) c)) → (r : Record)
+            → GoodAll (children r) → Fits r (option (l .place)) → tree (read r) ≡ r
+        unfolding Fits contentAt
+        option-right read read-is (leaf k b) g f = absurd (not-bytes (atMostOne (l .place)) (f .1))
+        option-right read read-is (node k c) g f = rw (read-is k c) (at-most-right c g (f .1) ∙ ap (λ (k : ℕ). node k c) (sym (eqb-true k 0x02 (f .0))))
 
 -- records read as they are
 abbrev pub plain : Layer
@@ -180,7 +186,8 @@ module _ {A : Type 0} (C : Codec A) where
   option·back (some x) = ap some (C .back x)
 
   pub option·right : (r : Record) → Fits r (option (C .place)) → Tree.option (C .tree) (option·of (C .of) r) ≡ r
-  option·right r f = option-right plain (sure plain C) (C .of) none some (Tree.option (C .tree)) refl (λ x. refl) (option·of (C .of)) (λ k c. refl) r (plainly (children r)) f
+  option·right r f =
+      option-right plain (sure plain C) (C .of) none some (Tree.option (C .tree)) refl (λ x. refl) (option·of (C .of)) (λ k c. refl) r (plainly (children r)) f
 
   abbrev pub option·codec : Codec (Option A)
   option·codec = record { place = option (C .place); tree = Tree.option (C .tree); of = option·of (C .of); back = option·back; right = option·right }

@@ -5,11 +5,13 @@ use lib.Dec.{lit≤}
 use Rattle.records.specs.Record.{Record, children}
 use Rattle.records.specs.Kinds.{seq, type, rowOf}
 use Rattle.records.proofs.Fits.{Fits}
-use Rattle.mirror.specs.Rast.{«Type», U8, U16, U32, U64, U128, I8, I16, I32, I64, I128, USIZE, Bool, TIdentifier, TypeFromPath, TypeApp, Borrowed, BorrowedMut, ImplType, DynType, TupleType, FnType, IntersectionType, Array, TSynonym, TMetaData, Types, []ᵗ, _∷ᵗ_}
+use Rattle.mirror.specs.Rast.{«Type», U8, U16, U32, U64, U128, I8, I16, I32, I64, I128, USIZE, Bool, TIdentifier, TypeFromPath, TypeApp, Borrowed}
+use Rattle.mirror.specs.Rast.{BorrowedMut, ImplType, DynType, TupleType, FnType, IntersectionType, Array, TSynonym, TMetaData, Types, []ᵗ, _∷ᵗ_}
 use Rattle.mirror.specs.Tree.{Type·tree, Types·trees, list}
 use Rattle.mirror.proofs.Decode.{fold, foldAll, Type·absent, Type·at, Types·from, Type·reading, Type·of, Types·of}
 use Rattle.records.proofs.Run.{_⨾_}
-use Rattle.mirror.proofs.Rows.{Layer, Law, Codec, GoodAll, refold, layer, row, all-good, sure, kinds-right, seq-right, text·codec, kept·codec, option·codec, option·back}
+use Rattle.mirror.proofs.Rows.{Layer, Law, Codec, GoodAll, refold, layer, row, all-good, sure, kinds-right, seq-right, text·codec, kept·codec}
+use Rattle.mirror.proofs.Rows.{option·codec, option·back}
 use Rattle.mirror.proofs.Paths.{Path·back, Path·codec}
 
 mutual

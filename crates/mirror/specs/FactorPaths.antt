@@ -1,4 +1,5 @@
--- Module FactorPathsOptimization of the Dafny text, function by function. A map is a list of entries in the order in which they were put, a set a list without repetition. Assumes nothing: these are definitions.
+-- Module FactorPathsOptimization of the Dafny text, function by function. A map is a list of entries in the order in which they were put, a set a list without
+-- repetition. Assumes nothing: these are definitions.
 use mathlib.Core.List.{List, [], _∷_, _++_}
 use mathlib.Core.Option.{Option, none, some}
 use mathlib.Core.Bool.{Bool as 𝔹, true, false, _&&_, _||_, cond}
@@ -7,9 +8,14 @@ use lib.ListN.{length, take, getD}
 use lib.Dec.{eqb, ltb}
 use Rattle.wire.specs.Numbers.{sameBytes}
 use Rattle.factor_paths.specs.Mapping.{Entry, entry}
-use Rattle.mirror.specs.Rast.{string, Path, Global, Crate, Self, PMemberSelect, «Type», U8, U16, U32, U64, U128, I8, I16, I32, I64, I128, USIZE, Bool, TIdentifier, TypeFromPath, TypeApp, Borrowed, BorrowedMut, ImplType, DynType, TupleType, FnType, IntersectionType, Array, TSynonym, TMetaData}
-use Rattle.mirror.specs.Rast.{Expr, RawExpr, ExprFromType, Identifier, Match, StmtExpr, Block, StructBuild, Tuple, UnaryOp, BinaryOp, TypeAscription, TraitCast, LiteralInt, LiteralBool, LiteralString, DeclareVar, Assign, IfExpr, Loop, For, Labelled, Break, Continue, Return, CallType, Call, Select, SelectIndex, ExprFromPath, FunctionSelect, Lambda}
-use Rattle.mirror.specs.Rast.{Struct′, TypeSynonym′, Constant′, Enum′, Fn′, Trait′, TopFn, Use′, Mod, Mod′, ExternMod, ModDecl, ModDecl′, StructDecl, TypeDecl, ConstDecl, EnumDecl, ImplDecl, TraitDecl, TopFnDecl′, UseDecl, ModDecls, []ᵐ, _∷ᵐ_}
+use Rattle.mirror.specs.Rast.{string, Path, Global, Crate, Self, PMemberSelect, «Type», U8, U16, U32, U64, U128, I8, I16, I32, I64, I128, USIZE, Bool}
+use Rattle.mirror.specs.Rast.{TIdentifier, TypeFromPath, TypeApp, Borrowed, BorrowedMut, ImplType, DynType, TupleType, FnType, IntersectionType, Array}
+use Rattle.mirror.specs.Rast.{TSynonym, TMetaData}
+use Rattle.mirror.specs.Rast.{Expr, RawExpr, ExprFromType, Identifier, Match, StmtExpr, Block, StructBuild, Tuple, UnaryOp, BinaryOp, TypeAscription}
+use Rattle.mirror.specs.Rast.{TraitCast, LiteralInt, LiteralBool, LiteralString, DeclareVar, Assign, IfExpr, Loop, For, Labelled, Break, Continue, Return}
+use Rattle.mirror.specs.Rast.{CallType, Call, Select, SelectIndex, ExprFromPath, FunctionSelect, Lambda}
+use Rattle.mirror.specs.Rast.{Struct′, TypeSynonym′, Constant′, Enum′, Fn′, Trait′, TopFn, Use′, Mod, Mod′, ExternMod, ModDecl, ModDecl′, StructDecl}
+use Rattle.mirror.specs.Rast.{TypeDecl, ConstDecl, EnumDecl, ImplDecl, TraitDecl, TopFnDecl′, UseDecl, ModDecls, []ᵐ, _∷ᵐ_}
 use Rattle.mirror.specs.Visitor.{RASTTopDownVisitor, MSel, Mod·name, VisitMod}
 use Rattle.mirror.specs.Replacer.{RASTBottomUpReplacer, ReplaceMod, _++ᵐ_}
 

@@ -1,8 +1,12 @@
 -- RASTBottomUpReplacer of RAST, function by function. Assumes nothing: these are definitions.
 use mathlib.Core.List.{List, map}
 use mathlib.Core.Option.{Option·map}
-use Rattle.mirror.specs.Rast.{Path, «Type», Formal′, Expr, TypeParamDecl, TypeParamDecl′, Field, Field′, NamelessField, NamelessField′, Fields, NamedFields, NamelessFields, Struct, Struct′, TypeSynonym, TypeSynonym′, Constant, Constant′, EnumCase, EnumCase′, Enum, Enum′, Fn, Fn′, ImplMember, RawImplMember, TypeDeclMember, FnDecl, ImplMemberMacro, Impl, ImplFor, Impl′, Trait, Trait′, TopFnDecl, TopFn, Use, Use′}
-use Rattle.mirror.specs.Rast.{Mod, Mod′, ExternMod, ModDecl, ModDecl′, StructDecl, TypeDecl, ConstDecl, EnumDecl, ImplDecl, TraitDecl, TopFnDecl′, UseDecl, ModDecls, []ᵐ, _∷ᵐ_}
+use Rattle.mirror.specs.Rast.{Path, «Type», Formal′, Expr, TypeParamDecl, TypeParamDecl′, Field, Field′, NamelessField, NamelessField′, Fields}
+use Rattle.mirror.specs.Rast.{NamedFields, NamelessFields, Struct, Struct′, TypeSynonym, TypeSynonym′, Constant, Constant′, EnumCase, EnumCase′, Enum}
+use Rattle.mirror.specs.Rast.{Enum′, Fn, Fn′, ImplMember, RawImplMember, TypeDeclMember, FnDecl, ImplMemberMacro, Impl, ImplFor, Impl′, Trait, Trait′}
+use Rattle.mirror.specs.Rast.{TopFnDecl, TopFn, Use, Use′}
+use Rattle.mirror.specs.Rast.{Mod, Mod′, ExternMod, ModDecl, ModDecl′, StructDecl, TypeDecl, ConstDecl, EnumDecl, ImplDecl, TraitDecl, TopFnDecl′}
+use Rattle.mirror.specs.Rast.{UseDecl, ModDecls, []ᵐ, _∷ᵐ_}
 use Rattle.mirror.specs.Fold.{Mod·Fold}
 use Rattle.mirror.specs.Replace.{mapTypes, Type·Replace, Formal·Replace, Expr·Replace}
 use Rattle.mirror.specs.Visitor.{MSel, Mod·name}
@@ -106,5 +110,6 @@ module _ (this : RASTBottomUpReplacer) where
   unfoldable pub ReplaceMod : Mod → Path → Mod
   ReplaceMod (ExternMod name) SelfPath = ExternMod name
   ReplaceMod (Mod′ docString attributes name body) SelfPath =
-      let newModDeclarations : ModDecls = Mod·Fold (Mod′ docString attributes name body) []ᵐ (λ current modDecl. current ++ᵐ (ReplaceModDecl modDecl SelfPath ∷ᵐ []ᵐ)) in
+      let newModDeclarations : ModDecls = Mod·Fold (Mod′ docString attributes name body) []ᵐ
+      (λ current modDecl. current ++ᵐ (ReplaceModDecl modDecl SelfPath ∷ᵐ []ᵐ)) in
       Mod′ docString attributes name newModDeclarations

@@ -1,8 +1,13 @@
--- RASTTopDownVisitor of RAST, function by function. Its own functions stand before those that call them; recurseSubmodules comes with VisitMod. Assumes nothing: these are definitions.
+-- RASTTopDownVisitor of RAST, function by function. Its own functions stand before those that call them; recurseSubmodules comes with VisitMod. Assumes
+-- nothing: these are definitions.
 use mathlib.Core.List.{List}
 use mathlib.Core.Bool.{Bool as 𝔹, true, false}
-use Rattle.mirror.specs.Rast.{Path, PMemberSelect, «Type», Types, Formal, Formal′, Expr, TypeParamDecl, TypeParamDecl′, Field, Field′, NamelessField, NamelessField′, Fields, NamedFields, NamelessFields, Struct, Struct′, TypeSynonym, TypeSynonym′, Constant, Constant′, EnumCase, EnumCase′, Enum, Enum′, Fn, Fn′, ImplMember, RawImplMember, TypeDeclMember, FnDecl, ImplMemberMacro, Impl, ImplFor, Impl′, Trait, Trait′, TopFnDecl, TopFn, Use}
-use Rattle.mirror.specs.Rast.{Mod, Mod′, ExternMod, ModDecl, ModDecl′, StructDecl, TypeDecl, ConstDecl, EnumDecl, ImplDecl, TraitDecl, TopFnDecl′, UseDecl, ModDecls, []ᵐ, _∷ᵐ_, string}
+use Rattle.mirror.specs.Rast.{Path, PMemberSelect, «Type», Types, Formal, Formal′, Expr, TypeParamDecl, TypeParamDecl′, Field, Field′, NamelessField}
+use Rattle.mirror.specs.Rast.{NamelessField′, Fields, NamedFields, NamelessFields, Struct, Struct′, TypeSynonym, TypeSynonym′, Constant, Constant′}
+use Rattle.mirror.specs.Rast.{EnumCase, EnumCase′, Enum, Enum′, Fn, Fn′, ImplMember, RawImplMember, TypeDeclMember, FnDecl, ImplMemberMacro, Impl}
+use Rattle.mirror.specs.Rast.{ImplFor, Impl′, Trait, Trait′, TopFnDecl, TopFn, Use}
+use Rattle.mirror.specs.Rast.{Mod, Mod′, ExternMod, ModDecl, ModDecl′, StructDecl, TypeDecl, ConstDecl, EnumDecl, ImplDecl, TraitDecl, TopFnDecl′}
+use Rattle.mirror.specs.Rast.{UseDecl, ModDecls, []ᵐ, _∷ᵐ_, string}
 use Rattle.mirror.specs.Fold.{FoldLeft, FoldTypes, ifSome, Type·Fold, Expr·Fold}
 
 pub record RASTTopDownVisitor (T : Type 0) : Type 0 where

@@ -118,7 +118,8 @@ module _ (op : Operation) (card root out : Bytes) (work : List ℕ) (n : ℕ) wh
       (λ g. never BadRoot n (λ z. omega arith) (rw (a, b, g) at h))))
     where
       go : ltb (length work) (op .fewestWords) ≡ false → ltb (op .mostCardBytes) (length card) ≡ false → goodRoot op root ≡ true →
-          (v : Verdict) → reading (op .cardDepth) (op .outermost) card ≡ v → fair (reading (op .cardDepth) (op .outermost) card) ≡ true → afterReading op card root out work v .answer ≡ Shortened n → Passed
+          (v : Verdict) → reading (op .cardDepth) (op .outermost) card ≡ v → fair (reading (op .cardDepth) (op .outermost) card) ≡ true
+          → afterReading op card root out work v .answer ≡ Shortened n → Passed
       go a b g (Refused x) e f h = never x n (faulty x (rw e at f)) h
       go a b g Sound e f h =
           by-option (fullTable op (op .mostPairs (length work)) (deep (tree card)) (tree card) (MSel (tree root) (nameOf (tree card))) 0)

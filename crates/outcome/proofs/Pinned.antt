@@ -17,7 +17,8 @@ use Rattle.rast.specs.Fold.{Fold}
 use Rattle.rast.specs.Replace.{Replace}
 use Rattle.rast.specs.Visitor.{VisitType, VisitTypeParams, VisitBody, VisitImplMapping, VisitStructMapping, VisitModMapping, VisitMod}
 use Rattle.rast.specs.Replacer.{ReplaceType, ReplaceFields, ReplaceTypeParams, ReplaceBody, ReplaceImplDecl, ReplaceStruct, ReplaceModDecl, ReplaceMod}
-use Rattle.factor_paths.specs.Mapping.{get, set, _among_, Add, ToFinalReplacement, ToUseStatements, pairs}
+use Rattle.rast.specs.Final.{isAmong, finalPath}
+use Rattle.factor_paths.specs.Mapping.{get, set, Add, ToFinalReplacement, ToUseStatements, pairs}
 use Rattle.factor_paths.specs.PathsVisitor.{VisitTypeSingle, VisitModDeclSingle}
 use Rattle.factor_paths.specs.Apply.{replaces, ReplaceTypeSingle, PathSimplifier, mappings, pathsToRemove, imports, applyPrefix, apply}
 use Rattle.outcome.specs.FullTable.{firstIn, fullTable}
@@ -96,7 +97,7 @@ stand-there = (refl, refl)
 pub full-at : map (λ most. fullTable upstream most (deep card) card (MSel Crate m) 0) (0 ∷ 1 ∷ 2 ∷ 3 ∷ 4 ∷ [])
     ≡ some 0 ∷ some 0 ∷ some 37 ∷ some 260 ∷ none ∷ []
 unfolding le sameBytes deep encode nth first FoldLeft samePath Mod·Fold Fold VisitType VisitTypeParams VisitBody VisitImplMapping VisitStructMapping
-    VisitModMapping VisitMod get set _among_ Add pairs VisitTypeSingle VisitModDeclSingle mappings firstIn fullTable
+    VisitModMapping VisitMod get set isAmong finalPath Add pairs VisitTypeSingle VisitModDeclSingle mappings firstIn fullTable
 full-at = refl
 
 -- upstream, but for the limits of 1, 2, 3 and 8: as many pairs as words
@@ -111,8 +112,9 @@ limited =
       mostPairs = λ words. words;
       outermost = upstream .outermost;
       sameName = upstream .sameName;
-      entering = upstream .entering;
+      namesAgain = upstream .namesAgain;
       walksAgain = upstream .walksAgain;
+      chosenBase = upstream .chosenBase;
     }
 
 -- lent: so many words of 5, an out buffer of two bytes, and then a card and a root
@@ -128,7 +130,7 @@ pub full-first : map (λ words. lent words (encode card) (encode Crate)) (1 ∷ 
     ≡ late (FullTable 0) 1 ∷ late (FullTable 37) 2 ∷ late (FullTable 260) 3 ∷ late NoSpace 4 ∷ []
 unfolding le num sameBytes deep encode parse nth tree setNth _▸▸_ first FoldLeft mapAll rowOf contentAt read reading samePath Mod·Fold Fold Replace
     VisitType VisitTypeParams VisitBody VisitImplMapping VisitStructMapping VisitModMapping VisitMod ReplaceType ReplaceFields ReplaceTypeParams
-    ReplaceBody ReplaceImplDecl ReplaceStruct ReplaceModDecl ReplaceMod get set _among_ Add ToFinalReplacement ToUseStatements pairs VisitTypeSingle
+    ReplaceBody ReplaceImplDecl ReplaceStruct ReplaceModDecl ReplaceMod get set isAmong finalPath Add ToFinalReplacement ToUseStatements pairs VisitTypeSingle
     VisitModDeclSingle replaces ReplaceTypeSingle PathSimplifier mappings pathsToRemove imports applyPrefix apply firstIn fullTable admitted shorten
 full-first = refl
 

@@ -1,4 +1,4 @@
--- How large the number and the place of an answer are. Assumes nothing.
+-- How large the place of an answer is. Assumes nothing.
 use mathlib.Core.Path.{_≡_, refl}
 use mathlib.Core.Bool.{Bool, true, false, not, cond}
 use Prim.Native.Nat.{ℕ, _≤_}
@@ -6,9 +6,7 @@ use native.Mathlib.Omega.{arith}
 use lib.ListN.{length}
 use lib.Dec.{ltb}
 use borrow.Author.Tests.{ltb-false}
-use Rattle.answers.specs.Answers.{number, value}
-use Rattle.answers.specs.declared.Answer.{Answer}
-use Rattle.answers.specs.declared.Answer.the-variants.{Shortened, ShortWork, LongCard, BadRoot, ShortRecord, WrongKind, TooDeep, LeftOver, FullTable, NoSpace}
+use Rattle.answers.specs.Answers.{value}
 use Rattle.answers.specs.declared.Verdict.{Verdict}
 use Rattle.answers.specs.declared.Verdict.the-variants.{Sound, Refused}
 use Rattle.wire.specs.Numbers.{Bytes}
@@ -17,19 +15,6 @@ use Rattle.records.specs.Reading.{reading}
 use Rattle.records.proofs.Faults.{Within, reading-within}
 use Rattle.rast.specs.Operation.{upstream}
 use Rattle.outcome.specs.Outcome.{goodRoot, admitted}
-
--- every number is one of 0 to 9
-pub number-small : (a : Answer) → number a ≤ 9
-number-small (Shortened n) = omega arith
-number-small ShortWork = omega arith
-number-small LongCard = omega arith
-number-small BadRoot = omega arith
-number-small (ShortRecord n) = omega arith
-number-small (WrongKind n) = omega arith
-number-small (TooDeep n) = omega arith
-number-small (LeftOver n) = omega arith
-number-small (FullTable n) = omega arith
-number-small NoSpace = omega arith
 
 -- the place of a refusal
 abbrev pub place : Verdict → ℕ

@@ -11,7 +11,7 @@ use Rattle.wire.proofs.Alike.{other-length, same-parts}
 use Rattle.wire.proofs.Slices.{tail-is}
 use Rattle.wire.proofs.Numbers.{sameBytes-self, sameBytes-true}
 use Rattle.records.specs.Record.{encode}
-use Rattle.records.proofs.Tree.{Canonical}
+use Rattle.records.specs.Canonical.{Canonical}
 use Rattle.rast.specs.Path.{Path, «dafny_runtime»}
 use Rattle.rast.specs.Operation.{upstream}
 use Rattle.rast.proofs.Tests.{both-ways}
@@ -47,4 +47,5 @@ module _ (s : Bytes) (b : Bool) (h : 18 ≤ length s) (e : b ≡ sameBytes (take
   runtime-not n = ap (λ (x : Bool). x && sameBytes (drop 18 s) name) (sym (not-true b n) ∙ e) ∙ parts
 
   pub runtime-is : (x : Bool) → not b ≡ false → x ≡ sameBytes (take (length s - 18) (drop 18 s)) name → x ≡ sameBytes s (encode «dafny_runtime»)
-  runtime-is x n r = r ∙ ap (λ (y : Bytes). sameBytes y name) (tail-is s 18) ∙ ap (λ (y : Bool). y && sameBytes (drop 18 s) name) (sym (not-false b n) ∙ e) ∙ parts
+  runtime-is x n r =
+      r ∙ ap (λ (y : Bytes). sameBytes y name) (tail-is s 18) ∙ ap (λ (y : Bool). y && sameBytes (drop 18 s) name) (sym (not-false b n) ∙ e) ∙ parts

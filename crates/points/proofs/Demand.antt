@@ -15,9 +15,10 @@ use Rattle.records.proofs.Shape.{fits-shaped}
 use Rattle.rast.specs.Path.{Path}
 use Rattle.rast.specs.Operation.{Operation, upstream}
 use Rattle.rast.proofs.Names.{Names, upstream-names}
+use Rattle.rast.proofs.Chosen.{Chooses, upstream-chooses}
 use Rattle.factor_paths.specs.Apply.{apply}
 use Rattle.factor_paths.proofs.Uses.{Marks, upstream-marks}
-use Rattle.factor_paths.proofs.Shapes.{selected-shaped, apply-read}
+use Rattle.factor_paths.proofs.Shapes.{apply-read}
 use Rattle.size.proofs.Bound.{output-small}
 use Rattle.outcome.specs.Outcome.{shorten}
 use Rattle.outcome.proofs.Accepted.{Accepted, accepted}
@@ -25,24 +26,26 @@ use Rattle.points.specs.Points.{Point, outside, NamesHold, Demand3}
 use Rattle.points.proofs.Modules.{module-point}
 
 -- of the tree of a module, under a root: every point of what apply makes of it
-pub apply-point : (op : Operation) → Names op → Marks op → (root : Path) (m : Record) → Fits m mod′ → Point op (outside op root) m (apply op root m)
+pub apply-point : (op : Operation) → Names op → Chooses op → Marks op → (root : Path) (m : Record) → Fits m mod′
+    → Point op (outside op root) m (apply op root m)
 unfolding apply
-apply-point op N alike root m f = module-point op N alike (deep m) (outside op root) m f (le-refl (deep m))
+apply-point op N C alike root m f = module-point op N C alike (deep m) (outside op root) m f (le-refl (deep m))
 
 -- of the bytes of a card and a root that are sound, if what is put out is not too long to be read back
-pub names-hold : (card root : Bytes) → AreBytes card → AreBytes root → reading 48 mod′ card ≡ Sound → reading 8 path root ≡ Sound → length (encode (apply upstream (tree root) (tree card))) < 2 ^ 32 →
+pub names-hold : (card root : Bytes) → AreBytes card → AreBytes root → reading 48 mod′ card ≡ Sound → reading 8 path root ≡ Sound
+    → length (encode (apply upstream (tree root) (tree card))) < 2 ^ 32 →
     NamesHold upstream card root (encode (apply upstream (tree root) (tree card)))
 names-hold card root b c s r short =
     let h : ReadsAs 48 mod′ card (tree card) = sound-reads 48 mod′ card b s in
     let g : ReadsAs 8 path root (tree root) = sound-reads 8 path root c r in
     let e : tree (encode (apply upstream (tree root) (tree card))) ≡ apply upstream (tree root) (tree card) =
-    apply-read upstream selected-shaped (tree root) (tree card) (h .fits) (fits-shaped (tree root) path refl (g .fits)) short in
+    apply-read upstream upstream-chooses (tree root) (tree card) (h .fits) (fits-shaped (tree root) path refl (g .fits)) short in
     record {
       card-tree = h .encoded;
       root-tree = g .encoded;
       output-tree = ap encode e;
       defined = refl;
-      points = rw e (apply-point upstream upstream-names upstream-marks (tree root) (tree card) (h .fits));
+      points = rw e (apply-point upstream upstream-names upstream-chooses upstream-marks (tree root) (tree card) (h .fits));
     }
 
 -- DEMAND 3, of whatever is lent

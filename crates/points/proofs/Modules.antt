@@ -17,6 +17,7 @@ use Rattle.rast.specs.Operation.{Operation, nested}
 use Rattle.rast.specs.Mod.{nameOf}
 use Rattle.rast.proofs.Tests.{by-test}
 use Rattle.rast.proofs.Names.{Names}
+use Rattle.rast.proofs.Chosen.{Chooses}
 use Rattle.factor_paths.specs.Apply.{pathsToRemove, imports, applyPrefix}
 use Rattle.factor_paths.specs.Walk.{walkDecl}
 use Rattle.factor_paths.proofs.Tidy.{declKind, decls-closed, fits-paths}
@@ -68,7 +69,7 @@ after-one r k to f e =
     let n : kind r ≡ k → ⊥ = eqb-false (kind r) k e in
     narrow r k to (suc k) to f (ap₂ _&&_ (le-leb (suc k) (kind r) (omega arith)) (le-leb (kind r) to (h .1)))
 
-module _ (op : Operation) (N : Names op) (alike : Marks op) where
+module _ (op : Operation) (N : Names op) (C : Chooses op) (alike : Marks op) where
   -- the points of a module under whatever is around it, at most n deep
   abbrev Holds : ℕ → Type 0
   Holds n = (around : Module) (m : Record) → Fits m mod′ → deep m ≤ n → Point op around m (applyPrefix op n m (around .inner (nameOf m)))
@@ -92,7 +93,8 @@ module _ (op : Operation) (N : Names op) (alike : Marks op) where
     decl-point d f le =
         by-test (is 0x62 d)
         (λ e. nested-point d (at-one d 0x62 0x6A f e) le)
-        (λ e. rw e (walk-point op N alike m p (nested op p) d false 0 (fits-of declKind decls-closed d (kinds 0x63 0x6A) refl (after-one d 0x62 0x6A f e)) (fits-paths d (kinds 0x62 0x6A) f)))
+        (λ e. rw e (walk-point op N alike m p (nested op p) d false 0 (fits-of declKind decls-closed d (kinds 0x63 0x6A) refl (after-one d 0x62 0x6A f e))
+        (fits-paths d (kinds 0x62 0x6A) f)))
 
     decls-point : (c : Records) → FitsAll c (any (kinds 0x62 0x6A)) → deepAll c ≤ n → Points op M c (mapAll declared c)
     unfolding FitsAll Points mapAll deep
@@ -100,16 +102,27 @@ module _ (op : Operation) (N : Names op) (alike : Marks op) where
     decls-point (r ▸ c) f le = (decl-point r (f .0) (omega arith), decls-point c (f .1) (omega arith))
 
   -- a Mod, by its fields
-  fields-point : (n : ℕ) → Holds n → (around : Module) (d a t : Record) (c : Records) → Fits d (one 0x01) → Fits a (one 0x03) → Fits t (one 0x01) → FitsAll c (any (kinds 0x62 0x6A)) → deepAll c ≤ n →
+  fields-point : (n : ℕ) → Holds n → (around : Module) (d a t : Record) (c : Records) → Fits d (one 0x01) → Fits a (one 0x03) → Fits t (one 0x01)
+      → FitsAll c (any (kinds 0x62 0x6A)) → deepAll c ≤ n →
       let m : Record = node 0x60 (d ▸ a ▸ t ▸ node 0x02 c ▸ nil) in
       let p : Path = around .inner (nameOf m) in
       Point op around m (node 0x60 (d ▸ a ▸ t ▸ node 0x02 (imports op m p ▸▸ mapAll (walkDecl op (pathsToRemove op m p) (applyPrefix op n) p) c) ▸ nil))
   unfolding Point nth setNth
   fields-point n inside around d a t c hd ha ht hc le =
-      subst₂ Q (sym (ap (λ k. first k (us ▸▸ mapAll f c)) (ahead-count f us c) ∙ first-append us (mapAll f c))) (sym (ap (λ k. skip k (us ▸▸ mapAll f c)) (ahead-count f us c) ∙ skip-append us (mapAll f c))) (
+      subst₂ Q (sym (ap (λ k. first k (us ▸▸ mapAll f c)) (ahead-count f us c) ∙ first-append us (mapAll f c)))
+      (sym (ap (λ k. skip k (us ▸▸ mapAll f c)) (ahead-count f us c) ∙ skip-append us (mapAll f c))) (
         refl,
-        record { areUses = imports-are op m p; areDifferent = imports-different op N m p },
-        (self d 0x01 refl hd, (self a 0x03 refl ha, (self t 0x01 refl ht, (same-node op (M n inside m p) 0x02 c (mapAll f c) refl (decls-point n inside m p c hc le), tt)))),
+        record { areUses = imports-are op m p; areDifferent = imports-different op N C m p },
+        (
+          self d 0x01 refl hd,
+          (
+            self a 0x03 refl ha,
+            (
+              self t 0x01 refl ht,
+              (same-node op (M n inside m p) 0x02 c (mapAll f c) refl (decls-point n inside m p c hc le), tt),
+            ),
+          ),
+        ),
       )
     where
       m : Record
@@ -128,7 +141,8 @@ module _ (op : Operation) (N : Names op) (alike : Marks op) where
       Q ahead others =
           (_≡_ {A = ℕ} 0x60 0x60)
           × Ahead op (record { prefix = p; uses = ahead; names = collected op m p; inner = nested op p }) m
-          × Points op (record { prefix = p; uses = ahead; names = collected op m p; inner = nested op p }) (d ▸ a ▸ t ▸ node 0x02 c ▸ nil) (d ▸ a ▸ t ▸ node 0x02 others ▸ nil)
+          × Points op (record { prefix = p; uses = ahead; names = collected op m p; inner = nested op p }) (d ▸ a ▸ t ▸ node 0x02 c ▸ nil)
+          (d ▸ a ▸ t ▸ node 0x02 others ▸ nil)
 
       self : (r : Record) (k : ℕ) → holdsAt declKind (one k) ≡ true → Fits r (one k) → Point op (M n inside m p) r r
       self r k e h = point-self op (M n inside m p) r (fits-of declKind decls-closed r (one k) e h)
@@ -136,16 +150,21 @@ module _ (op : Operation) (N : Names op) (alike : Marks op) where
   -- an ExternMod holds what it held
   extern-point : (around : Module) (m : Record) → Fits m (one 0x61) → Point op around m m
   unfolding rowOf Points
-  extern-point around = by-kinds (λ m. Point op around m m) 0x61 0 (lit≤ tt) (λ t h. same-node op around 0x61 (t ▸ nil) (t ▸ nil) refl (point-self op around t (fits-of declKind decls-closed t (one 0x01) refl h), tt))
+  extern-point around =
+      by-kinds (λ m. Point op around m m) 0x61 0 (lit≤ tt) (λ t h. same-node op around 0x61 (t ▸ nil) (t ▸ nil) refl
+      (point-self op around t (fits-of declKind decls-closed t (one 0x01) refl h), tt))
 
-  mod-point : (n : ℕ) → Holds n → (around : Module) (m : Record) → ModFields m → deep m ≤ suc n → Point op around m (applyPrefix op (suc n) m (around .inner (nameOf m)))
+  mod-point : (n : ℕ) → Holds n → (around : Module) (m : Record) → ModFields m → deep m ≤ suc n
+      → Point op around m (applyPrefix op (suc n) m (around .inner (nameOf m)))
   unfolding deep
   mod-point n inside around m h le =
       subst (λ (q : Record). Point op around m q) (sym (module-walk op n (around .inner (nameOf m)) m h))
       (subst (λ (q : Record). Point op around q (node 0x60 (h .doc ▸ h .attributes ▸ h .named
-      ▸ node 0x02 (imports op q (around .inner (nameOf q)) ▸▸ mapAll (walkDecl op (pathsToRemove op q (around .inner (nameOf q))) (applyPrefix op n) (around .inner (nameOf q))) (h .body)) ▸ nil))) (sym (h .is-mod))
+      ▸ node 0x02 (imports op q (around .inner (nameOf q)) ▸▸ mapAll (walkDecl op (pathsToRemove op q (around .inner (nameOf q))) (applyPrefix op n)
+      (around .inner (nameOf q))) (h .body)) ▸ nil))) (sym (h .is-mod))
       (fields-point n inside around (h .doc) (h .attributes) (h .named) (h .body) (h .doc-fits) (h .attributes-fits) (h .named-fits) (h .body-fits)
-      (let g : deep (node 0x60 (h .doc ▸ h .attributes ▸ h .named ▸ node 0x02 (h .body) ▸ nil)) ≤ suc n = subst (λ (q : Record). deep q ≤ suc n) (h .is-mod) le in omega arith)))
+      (let g : deep (node 0x60 (h .doc ▸ h .attributes ▸ h .named ▸ node 0x02 (h .body) ▸ nil)) ≤ suc n = subst (λ (q : Record). deep q ≤ suc n) (h .is-mod)
+      le in omega arith)))
 
   -- THE LAW: the points of every module that fits, with all that is in it
   pub module-point : (n : ℕ) → Holds n

@@ -50,7 +50,8 @@ module _ (op : Operation) (M : Module) where
     points-self (r ▸ c) o = (point-self r (o .0), points-self c (o .1))
 
 -- the path that a path type or a path expression selects a name of
-selected-held : (k : ℕ) → eqb k k ≡ true → (q : Record) → (is 0x13 q ≡ true → q ≡ MSel (field 0 q) (text (field 1 q))) → (v : Selected) → selected k (node k (q ▸ nil)) ≡ some v → q ≡ MSel (v .base) (v .name)
+selected-held : (k : ℕ) → eqb k k ≡ true → (q : Record) → (is 0x13 q ≡ true → q ≡ MSel (field 0 q) (text (field 1 q))) → (v : Selected)
+    → selected k (node k (q ▸ nil)) ≡ some v → q ≡ MSel (v .base) (v .name)
 unfolding nth
 selected-held k same q spelled v e =
     by-test (is 0x13 q)
@@ -71,12 +72,15 @@ module _ (op : Operation) (N : Names op) (alike : Marks op) (m : Record) (p : Pa
   rep = pathsToRemove op m p
 
   -- a shortened type
-  short-type : (c : Records) (h : PathIn c) (v : Selected) → selected 0x2D (node 0x2D c) ≡ some v → replaces op rep (v .name) (v .base) ≡ true → (w : ℕ) → Point op M (node 0x2D c) (synonyms (v .name) (suc w) (node 0x2D c))
+  short-type : (c : Records) (h : PathIn c) (v : Selected) → selected 0x2D (node 0x2D c) ≡ some v → replaces op rep (v .name) (v .base) ≡ true → (w : ℕ)
+      → Point op M (node 0x2D c) (synonyms (v .name) (suc w) (node 0x2D c))
   unfolding Point synonyms
-  short-type c h v e r w = record { name = v .name; more = w; wrapped = refl; finds = λ u. rw (selected-path 0x2D refl c h v e) (looks-up op N m p (v .name) (v .base) r) }
+  short-type c h v e r w =
+      record { name = v .name; more = w; wrapped = refl; finds = λ u. rw (selected-path 0x2D refl c h v e) (looks-up op N m p (v .name) (v .base) r) }
 
   -- a shortened expression: by its whole name, or without its mark
-  short-whole : (c : Records) (h : PathIn c) (v : Selected) → selected 0x5C (node 0x5C c) ≡ some v → replaces op rep (v .name) (v .base) ≡ true → Point op M (node 0x5C c) (Identifier (v .name))
+  short-whole : (c : Records) (h : PathIn c) (v : Selected) → selected 0x5C (node 0x5C c) ≡ some v → replaces op rep (v .name) (v .base) ≡ true
+      → Point op M (node 0x5C c) (Identifier (v .name))
   unfolding Point nth setNth
   short-whole c h v e r =
       record {
@@ -86,7 +90,8 @@ module _ (op : Operation) (N : Names op) (alike : Marks op) (m : Record) (p : Pa
             rw (selected-path 0x5C refl c h v e, t) (looks-up op N m p (v .name) (v .base) r);
       }
 
-  short-marked : (c : Records) (h : PathIn c) (v : Selected) → selected 0x5C (node 0x5C c) ≡ some v → marked (v .name) ≡ true → replaces op rep (unmarked (v .name)) (v .base) ≡ true → Point op M (node 0x5C c) (Identifier (v .name))
+  short-marked : (c : Records) (h : PathIn c) (v : Selected) → selected 0x5C (node 0x5C c) ≡ some v → marked (v .name) ≡ true
+      → replaces op rep (unmarked (v .name)) (v .base) ≡ true → Point op M (node 0x5C c) (Identifier (v .name))
   unfolding Point nth setNth
   short-marked c h v e t r =
       record {
@@ -122,14 +127,17 @@ module _ (op : Operation) (N : Names op) (alike : Marks op) (m : Record) (p : Pa
   -- one record, given the points of what it holds
   step-point : (a : Bool) (w k : ℕ) (c : Records) (s : Step) → declKind k ≡ true → OfAll declKind c → (eqb k 0x2D || eqb k 0x5C ≡ true → PathIn c) →
       Points op M c (walkAll op rep a (suc (deeper a w)) c) → Points op M c (walkAll op rep a (suc w) c) → Points op M c (walkFn op rep 0 c) →
-      Point op M (node k c) (stepped op rep s (suc w) (node k c) (node k (walkAll op rep a (suc (deeper a w)) c)) (node k (walkAll op rep a (suc w) c)) (node k (walkFn op rep 0 c)))
+      Point op M (node k c) (stepped op rep s (suc w) (node k c) (node k (walkAll op rep a (suc (deeper a w)) c)) (node k (walkAll op rep a (suc w) c))
+      (node k (walkFn op rep 0 c)))
   step-point a w k c aType d o h deep same fn =
       by-test (eqb k 0x2D)
-      (λ e. rw (paths-walked op rep a (suc (deeper a w)) c (h (or-left (eqb k 0x2D) (eqb k 0x5C) e)), eqb-true k 0x2D e) (type-point c (h (or-left (eqb k 0x2D) (eqb k 0x5C) e)) o w))
+      (λ e. rw (paths-walked op rep a (suc (deeper a w)) c (h (or-left (eqb k 0x2D) (eqb k 0x5C) e)), eqb-true k 0x2D e)
+      (type-point c (h (or-left (eqb k 0x2D) (eqb k 0x5C) e)) o w))
       (λ e. rw (wrap-other op rep (suc w) k (walkAll op rep a (suc (deeper a w)) c) e) (same-node op M k c _ (no-module k d) deep))
   step-point a w k c anExpr d o h deep same fn =
       by-test (eqb k 0x5C)
-      (λ e. rw (paths-walked op rep a (suc (deeper a w)) c (h (or-right (eqb k 0x2D) (eqb k 0x5C) e)), eqb-true k 0x5C e) (expr-point c (h (or-right (eqb k 0x2D) (eqb k 0x5C) e)) o))
+      (λ e. rw (paths-walked op rep a (suc (deeper a w)) c (h (or-right (eqb k 0x2D) (eqb k 0x5C) e)), eqb-true k 0x5C e)
+      (expr-point c (h (or-right (eqb k 0x2D) (eqb k 0x5C) e)) o))
       (λ e. rw (expr-other op rep k (walkAll op rep a (suc (deeper a w)) c) e) (same-node op M k c _ (no-module k d) deep))
   step-point a w k c aFn d o h deep same fn = same-node op M k c _ (no-module k d) fn
   step-point a w k c left d o h deep same fn = same-node op M k c c (no-module k d) (points-self op M c o)
@@ -143,7 +151,8 @@ module _ (op : Operation) (N : Names op) (alike : Marks op) (m : Record) (p : Pa
     walk-point (leaf k b) a w o p = (refl, refl)
     walk-point (node k c) a w o p =
         rw (← deeper-suc a w)
-        (step-point a w k c (stepOf k) (o .0) (o .1) (p .0) (walk-points c a (deeper a w) (o .1) (p .1)) (walk-points c a w (o .1) (p .1)) (fn-points c 0 (o .1) (p .1)))
+        (step-point a w k c (stepOf k) (o .0) (o .1) (p .0) (walk-points c a (deeper a w) (o .1) (p .1)) (walk-points c a w (o .1) (p .1))
+        (fn-points c 0 (o .1) (p .1)))
 
     pub walk-points : (c : Records) (a : Bool) (w : ℕ) → OfAll declKind c → PathsAll c → Points op M c (walkAll op rep a (suc w) c)
     walk-points nil a w o p = tt

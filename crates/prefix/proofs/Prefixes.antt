@@ -6,11 +6,12 @@ use Prim.Native.Nat.{ℕ, zero, suc, _+_, _-_, _<_, _≤_}
 use native.Mathlib.Omega.{arith}
 use lib.ListN.{length, take, drop, getD, length-drop}
 use lib.Seq.{take-take, take-nil, length-take-le, drop-drop}
-use lib.Dec.{eqb}
-use borrow.Author.Tests.{not-true, not-false, eq-eqb, ne-eqb}
+use borrow.Author.Tests.{not-true, not-false}
 use Rattle.wire.specs.Numbers.{Bytes, sameBytes}
+use Rattle.rast.specs.Operation.{Operation}
 use Rattle.wire.proofs.Slices.{tail-is}
-use Rattle.prefix.specs.Prefix.{recordAt, selection, baseOf, isSelection, prefixUpTo, prefixOf}
+use Rattle.records.specs.Record.{recordAt}
+use Rattle.prefix.specs.Prefix.{selection, baseOf, isSelection, twice, prefixUpTo, prefixOf}
 use Rattle.prefix.proofs.Selections.{select-base, select-room}
 
 -- what is left of the path, between two places, is compared with what is left of the whole
@@ -29,15 +30,24 @@ drop-take (suc k) (suc n) [] = sym (take-nil (suc n - suc k))
 drop-take (suc k) (suc n) (b ∷ s) = let e : suc n - suc k ≡ n - k = omega arith in rw e (drop-take k n s)
 
 -- the base of what is left stands between the two places that the name and its head leave
-base-left : (path name : Bytes) (from to : ℕ) → to ≤ length path → from + 6 + length name ≤ to → baseOf (take (to - from) (drop from path)) name ≡ take (to - length name - (from + 6)) (drop (from + 6) path)
+base-left : (path name : Bytes) (from to : ℕ) → to ≤ length path → from + 6 + length name ≤ to
+    → baseOf (take (to - from) (drop from path)) name ≡ take (to - length name - (from + 6)) (drop (from + 6) path)
 base-left path name from to h k =
     let d = length-drop from path in
     let l : length (take (to - from) (drop from path)) ≡ to - from = length-take-le (to - from) (drop from path) (omega arith) in
     let e : to - from - 6 - length name ≡ to - length name - (from + 6) = omega arith in
-    rw (l, drop-take 6 (to - from) (drop from path), take-take (to - from - 6 - length name) (to - from - 6) (drop 6 (drop from path)) (omega arith), drop-drop 6 from path, e)
+    rw (
+      l,
+      drop-take 6 (to - from) (drop from path),
+      take-take (to - from - 6 - length name) (to - from - 6) (drop 6 (drop from path)) (omega arith),
+      drop-drop
+          6 from path,
+      e,
+    )
 
 -- the last name of what is left, by its test
-module _ (path whole rest name : Bytes) (from to : ℕ) (p : Peeled path whole from to (selection rest name)) (b : Bool) (e : b ≡ isSelection (take (to - from) (drop from path)) name) where
+module _ (path whole rest name : Bytes) (from to : ℕ) (p : Peeled path whole from to (selection rest name)) (b : Bool)
+    (e : b ≡ isSelection (take (to - from) (drop from path)) name) where
   by-name : sameBytes path whole ≡ b && sameBytes (baseOf (take (to - from) (drop from path)) name) rest
   by-name = rw e (p .same ∙ select-base (take (to - from) (drop from path)) rest name)
 
@@ -63,60 +73,69 @@ module _ (path whole rest name : Bytes) (from to : ℕ) (p : Peeled path whole f
       }
 
 -- what the name of the module after the first n of the chain is selected from
-abbrev under : (card root : Bytes) → List ℕ → ℕ → Bytes → Bytes
-under card root chain n name = cond (eqb n 0) (prefixUpTo card root chain n) (selection (prefixUpTo card root chain n) name)
+abbrev under : Operation → (card root : Bytes) → List ℕ → ℕ → Bytes → Bytes
+under op card root chain n name = cond (twice op n) (selection (prefixUpTo op card root chain n) name) (prefixUpTo op card root chain n)
 
-name-last : (card root : Bytes) (chain : List ℕ) (n : ℕ) (name : Bytes) → name ≡ recordAt card (getD chain n 0) → prefixUpTo card root chain (suc n) ≡ selection (under card root chain n name) name
+name-last : (op : Operation) (card root : Bytes) (chain : List ℕ) (n : ℕ) (name : Bytes) → name ≡ recordAt card (getD chain n 0)
+    → prefixUpTo op card root chain (suc n) ≡ selection (under op card root chain n name) name
 unfolding prefixUpTo
-name-last card root chain n name e = rw (← e) (go (eqb n 0) (prefixUpTo card root chain n))
+name-last op card root chain n name e = rw (← e) (go (twice op n) (prefixUpTo op card root chain n))
   where
-    go : (t : Bool) (s : Bytes) → cond t (selection s name) (selection (selection s name) name) ≡ selection (cond t s (selection s name)) name
+    go : (t : Bool) (s : Bytes) → cond t (selection (selection s name) name) (selection s name) ≡ selection (cond t (selection s name) s) name
     go true s = refl
     go false s = refl
 
 -- the names of the first i modules of the chain are left
-pub record Left (path card root : Bytes) (chain : List ℕ) (from to i : ℕ) : Type 0 where
+pub record Left (op : Operation) (path card root : Bytes) (chain : List ℕ) (from to i : ℕ) : Type 0 where
   pub counted : i ≤ length chain
-  pub peeled : Peeled path (prefixOf card root chain) from to (prefixUpTo card root chain i)
+  pub peeled : Peeled path (prefixOf op card root chain) from to (prefixUpTo op card root chain i)
 
-pub left-all : (path card root : Bytes) (chain : List ℕ) → Left path card root chain 0 (length path) (length chain)
+pub left-all : (op : Operation) (path card root : Bytes) (chain : List ℕ) → Left op path card root chain 0 (length path) (length chain)
 unfolding prefixOf
-left-all path card root chain = record { counted = omega arith; peeled = peeled-none path (prefixOf card root chain) }
+left-all op path card root chain = record { counted = omega arith; peeled = peeled-none path (prefixOf op card root chain) }
 
-pub left-none : (path card root : Bytes) (chain : List ℕ) (from to i : ℕ) (r : Bool) → i ≤ 0 → Left path card root chain from to i → r ≡ sameBytes (take (to - from) (drop from path)) root → r ≡ sameBytes path (prefixOf card root chain)
+pub left-none : (op : Operation) (path card root : Bytes) (chain : List ℕ) (from to i : ℕ) (r : Bool) → i ≤ 0 → Left op path card root chain from to i
+    → r ≡ sameBytes (take (to - from) (drop from path)) root → r ≡ sameBytes path (prefixOf op card root chain)
 unfolding prefixUpTo
-left-none path card root chain from to i r z l e = let n : i ≡ 0 = omega arith in e ∙ sym (rw n at (l .peeled .same))
+left-none op path card root chain from to i r z l e = let n : i ≡ 0 = omega arith in e ∙ sym (rw n at (l .peeled .same))
 
 -- the last of the names that are left, as it was read
-module _ (path card root : Bytes) (chain : List ℕ) (from to i : ℕ) (some : 0 < i) (l : Left path card root chain from to i) (name : Bytes) (is-name : name ≡ recordAt card (getD chain (i - 1) 0)) where
-  last : Peeled path (prefixOf card root chain) from to (selection (under card root chain (i - 1) name) name)
-  last = let n : suc (i - 1) ≡ i = omega arith in rw (← name-last card root chain (i - 1) name is-name, n) (l .peeled)
+module _ (op : Operation) (path card root : Bytes) (chain : List ℕ) (from to i : ℕ) (some : 0 < i) (l : Left op path card root chain from to i) (name : Bytes)
+    (is-name : name ≡ recordAt card (getD chain (i - 1) 0)) where
+  last : Peeled path (prefixOf op card root chain) from to (selection (under op card root chain (i - 1) name) name)
+  last = let n : suc (i - 1) ≡ i = omega arith in rw (← name-last op card root chain (i - 1) name is-name, n) (l .peeled)
 
   module _ (b : Bool) (e : b ≡ isSelection (take (to - from) (drop from path)) name) where
-    pub name-other : not b ≡ true → false ≡ sameBytes path (prefixOf card root chain)
-    name-other = peel-other path (prefixOf card root chain) (under card root chain (i - 1) name) name from to last b e
+    pub name-other : not b ≡ true → false ≡ sameBytes path (prefixOf op card root chain)
+    name-other = peel-other path (prefixOf op card root chain) (under op card root chain (i - 1) name) name from to last b e
 
     pub name-room : not b ≡ false → from + 6 + length name ≤ to
-    name-room = peel-room path (prefixOf card root chain) (under card root chain (i - 1) name) name from to last b e
+    name-room = peel-room path (prefixOf op card root chain) (under op card root chain (i - 1) name) name from to last b e
 
-    once : not b ≡ false → Peeled path (prefixOf card root chain) (from + 6) (to - length name) (under card root chain (i - 1) name)
-    once = peel-next path (prefixOf card root chain) (under card root chain (i - 1) name) name from to last b e
+    once : not b ≡ false → Peeled path (prefixOf op card root chain) (from + 6) (to - length name) (under op card root chain (i - 1) name)
+    once = peel-next path (prefixOf op card root chain) (under op card root chain (i - 1) name) name from to last b e
 
-    -- the outermost module's name stands once
-    pub outermost-next : not b ≡ false → i - 1 ≤ 0 → Left path card root chain (from + 6) (to - length name) (i - 1)
-    outermost-next n z = let c = l .counted in record { counted = omega arith; peeled = rw (eq-eqb (i - 1) 0 (omega arith)) at (once n) }
+    module _ (t : Bool) (f : t ≡ twice op (i - 1)) where
+      -- a name that stands once
+      pub once-next : not b ≡ false → t ≡ false → Left op path card root chain (from + 6) (to - length name) (i - 1)
+      once-next n z = let c = l .counted in record { counted = omega arith; peeled = rw (← f, z) at (once n) }
 
-    -- and a nested one's twice
-    module _ (n : not b ≡ false) (nested : 0 < i - 1) where
-      twice : Peeled path (prefixOf card root chain) (from + 6) (to - length name) (selection (prefixUpTo card root chain (i - 1)) name)
-      twice = rw (ne-eqb (i - 1) 0 (λ z. omega arith)) at (once n)
+      -- and one that stands twice
+      module _ (n : not b ≡ false) (y : t ≡ true) where
+        again : Peeled path (prefixOf op card root chain) (from + 6) (to - length name) (selection (prefixUpTo op card root chain (i - 1)) name)
+        again = rw (← f, y) at (once n)
 
-      module _ (b2 : Bool) (e2 : b2 ≡ isSelection (take (to - length name - (from + 6)) (drop (from + 6) path)) name) where
-        pub again-other : not b2 ≡ true → false ≡ sameBytes path (prefixOf card root chain)
-        again-other = peel-other path (prefixOf card root chain) (prefixUpTo card root chain (i - 1)) name (from + 6) (to - length name) twice b2 e2
+        module _ (b2 : Bool) (e2 : b2 ≡ isSelection (take (to - length name - (from + 6)) (drop (from + 6) path)) name) where
+          pub again-other : not b2 ≡ true → false ≡ sameBytes path (prefixOf op card root chain)
+          again-other = peel-other path (prefixOf op card root chain) (prefixUpTo op card root chain (i - 1)) name (from + 6) (to - length name) again b2 e2
 
-        pub again-room : not b2 ≡ false → from + 6 + 6 + length name ≤ to - length name
-        again-room = peel-room path (prefixOf card root chain) (prefixUpTo card root chain (i - 1)) name (from + 6) (to - length name) twice b2 e2
+          pub again-room : not b2 ≡ false → from + 6 + 6 + length name ≤ to - length name
+          again-room = peel-room path (prefixOf op card root chain) (prefixUpTo op card root chain (i - 1)) name (from + 6) (to - length name) again b2 e2
 
-        pub nested-next : not b2 ≡ false → Left path card root chain (from + 6 + 6) (to - length name - length name) (i - 1)
-        nested-next k = let c = l .counted in record { counted = omega arith; peeled = peel-next path (prefixOf card root chain) (prefixUpTo card root chain (i - 1)) name (from + 6) (to - length name) twice b2 e2 k }
+          pub twice-next : not b2 ≡ false → Left op path card root chain (from + 6 + 6) (to - length name - length name) (i - 1)
+          twice-next k =
+              let c = l .counted in
+              record {
+                counted = omega arith;
+                peeled = peel-next path (prefixOf op card root chain) (prefixUpTo op card root chain (i - 1)) name (from + 6) (to - length name) again b2 e2 k;
+              }

@@ -1,7 +1,9 @@
 // Whether a path is a module's prefix, without writing the prefix out.
+use operation::Shortening;
 ghost use mathlib.Core.Path.{_≡_};
 ghost use Rattle.wire.specs.Numbers.{sameBytes};
-ghost use Rattle.prefix.specs.Prefix.{isSelection, prefixOf};
+ghost use Rattle.operation.specs.Operations.{operationOf};
+ghost use Rattle.prefix.specs.Prefix.{isSelection, twice, scope, prefixIn};
 
 // Whether a path is PMemberSelect of something and the name whose record this is. Its head comes last: most paths that are not end in another name.
 fn selects(path: &[u8], name: &[u8]) -> bool
@@ -33,9 +35,19 @@ fn selects(path: &[u8], name: &[u8]) -> bool
     wire::same(&path[..6], &head)
 }
 
+// Whether the name of module i of a chain stands twice in the prefix.
+fn stands_twice(op: Shortening, i: usize) -> bool
+    ensures { λ r. ⌜ r ≡ twice (operationOf op) i ⌝ }
+{
+    if i == 0 {
+        return false;
+    }
+    operation::names_again(op)
+}
+
 // From the last name to the first: most paths that are not the prefix differ in their last name.
-pub fn is_prefix(path: &[u8], card: &[u8], root: &[u8], chain: &[usize]) -> bool
-    ensures { λ r. ⌜ r ≡ sameBytes (now (path .entry)) (prefixOf (now (card .entry)) (now (root .entry)) (now (chain .entry))) ⌝ }
+pub fn is_prefix(op: Shortening, path: &[u8], card: &[u8], root: &[u8], chain: &[usize]) -> bool
+    ensures { λ r. ⌜ r ≡ sameBytes (now (path .entry)) (prefixIn (scope op (now (card .entry)) (now (root .entry)) (now (chain .entry)))) ⌝ }
 {
     let mut from = 0;
     let mut to = path.len();
@@ -48,7 +60,7 @@ pub fn is_prefix(path: &[u8], card: &[u8], root: &[u8], chain: &[usize]) -> bool
         }
         from += 6;
         to -= name.len();
-        if 0 < i {
+        if stands_twice(op, i) {
             if !selects(&path[from..to], name) {
                 return false;
             }

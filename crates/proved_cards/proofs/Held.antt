@@ -11,12 +11,16 @@ use Rattle.rast.specs.Path.{samePath}
 use Rattle.rast.specs.Mod.{Mod·Fold}
 use Rattle.rast.specs.Fold.{Fold}
 use Rattle.rast.specs.Replace.{Replace}
-use Rattle.rast.specs.Visitor.{VisitType, VisitTypeParams, VisitFields, VisitFn, VisitMember, VisitBody, VisitImplMapping, VisitUse, VisitTopFn, VisitTraitDecl, VisitStructMapping, VisitModMapping, VisitMod}
-use Rattle.rast.specs.Replacer.{ReplaceType, ReplaceExpr, ReplaceFields, ReplaceTypeParams, ReplaceFn, ReplaceImplMember, ReplaceBody, ReplaceUse, ReplaceTopFn, ReplaceTrait, ReplaceImplDecl, ReplaceEnumCase, ReplaceEnum, ReplaceConst, ReplaceTypeDecl, ReplaceStruct, ReplaceModDecl, ReplaceMod}
+use Rattle.rast.specs.Visitor.{VisitType, VisitTypeParams, VisitFields, VisitFn, VisitMember, VisitBody, VisitImplMapping, VisitUse, VisitTopFn, VisitTraitDecl}
+use Rattle.rast.specs.Visitor.{VisitStructMapping, VisitModMapping, VisitMod}
+use Rattle.rast.specs.Replacer.{ReplaceType, ReplaceExpr, ReplaceFields, ReplaceTypeParams, ReplaceFn, ReplaceImplMember, ReplaceBody, ReplaceUse, ReplaceTopFn}
+use Rattle.rast.specs.Replacer.{ReplaceTrait, ReplaceImplDecl, ReplaceEnumCase, ReplaceEnum, ReplaceConst, ReplaceTypeDecl, ReplaceStruct, ReplaceModDecl}
+use Rattle.rast.specs.Replacer.{ReplaceMod}
 use Rattle.factor_paths.specs.Mapping.{get, set, _among_, Add, ToFinalReplacement, ToUseStatements, pairs}
 use Rattle.factor_paths.specs.PathsVisitor.{VisitTypeSingle, VisitExprSingle, VisitTraitName, VisitModDeclSingle}
 use Rattle.factor_paths.specs.Apply.{replaces, ReplaceTypeSingle, ReplaceExprSingle, PathSimplifier, mappings, pathsToRemove, imports, applyPrefix, apply}
 use Rattle.records.specs.Kinds.{mod′}
+use Rattle.rast.specs.Final.{isAmong, finalPath}
 use Rattle.rast.specs.Operation.{upstream}
 use Rattle.factor_paths.specs.Walk.{synonyms}
 use Rattle.factor_paths.specs.LookUp.{UseDecls, unmarkedAll, namesBorne, lookUp, has, different, collected}
@@ -26,15 +30,30 @@ use Rattle.proved_cards.specs.Cards.{P3-card, P3-made, P8-card, P8-made,
 
 -- the supposition holds of P3's module
 P3-supposed : unmarkedAll (collected upstream P3-card (node 0x13 (Crate ▸ leaf 0x01 (109 ∷ []) ▸ nil))) ≡ true
-unfolding unmarkedAll le num sameBytes deep encode parse nth tree setNth _▸▸_ count skip first FoldLeft mapAll rowOf contentAt read reading samePath Mod·Fold Fold Replace VisitType VisitTypeParams VisitFields VisitFn VisitMember VisitBody VisitImplMapping VisitUse VisitTopFn VisitTraitDecl VisitStructMapping VisitModMapping VisitMod ReplaceType ReplaceExpr ReplaceFields ReplaceTypeParams ReplaceFn ReplaceImplMember ReplaceBody ReplaceUse ReplaceTopFn ReplaceTrait ReplaceImplDecl ReplaceEnumCase ReplaceEnum ReplaceConst ReplaceTypeDecl ReplaceStruct ReplaceModDecl ReplaceMod get set _among_ Add ToFinalReplacement ToUseStatements pairs VisitTypeSingle VisitExprSingle VisitTraitName VisitModDeclSingle replaces ReplaceTypeSingle ReplaceExprSingle PathSimplifier mappings pathsToRemove imports applyPrefix apply
+unfolding unmarkedAll le num sameBytes deep encode parse nth tree setNth _▸▸_ count skip first FoldLeft mapAll rowOf contentAt read reading samePath Mod·Fold
+    Fold Replace VisitType VisitTypeParams VisitFields VisitFn VisitMember VisitBody VisitImplMapping VisitUse VisitTopFn VisitTraitDecl VisitStructMapping
+    VisitModMapping VisitMod ReplaceType ReplaceExpr ReplaceFields ReplaceTypeParams ReplaceFn ReplaceImplMember ReplaceBody ReplaceUse ReplaceTopFn
+    ReplaceTrait ReplaceImplDecl ReplaceEnumCase ReplaceEnum ReplaceConst ReplaceTypeDecl ReplaceStruct ReplaceModDecl ReplaceMod get set isAmong finalPath Add
+    ToFinalReplacement ToUseStatements pairs VisitTypeSingle VisitExprSingle VisitTraitName VisitModDeclSingle replaces ReplaceTypeSingle ReplaceExprSingle
+    PathSimplifier mappings pathsToRemove imports applyPrefix apply
 P3-supposed = refl
 
 pub P3-sound : reading 48 mod′ (encode P3-card) ≡ Sound
-unfolding le num sameBytes deep encode parse nth tree setNth _▸▸_ count skip first FoldLeft mapAll rowOf contentAt read reading samePath Mod·Fold Fold Replace VisitType VisitTypeParams VisitFields VisitFn VisitMember VisitBody VisitImplMapping VisitUse VisitTopFn VisitTraitDecl VisitStructMapping VisitModMapping VisitMod ReplaceType ReplaceExpr ReplaceFields ReplaceTypeParams ReplaceFn ReplaceImplMember ReplaceBody ReplaceUse ReplaceTopFn ReplaceTrait ReplaceImplDecl ReplaceEnumCase ReplaceEnum ReplaceConst ReplaceTypeDecl ReplaceStruct ReplaceModDecl ReplaceMod get set _among_ Add ToFinalReplacement ToUseStatements pairs VisitTypeSingle VisitExprSingle VisitTraitName VisitModDeclSingle replaces ReplaceTypeSingle ReplaceExprSingle PathSimplifier mappings pathsToRemove imports applyPrefix apply
+unfolding le num sameBytes deep encode parse nth tree setNth _▸▸_ count skip first FoldLeft mapAll rowOf contentAt read reading samePath Mod·Fold Fold Replace
+    VisitType VisitTypeParams VisitFields VisitFn VisitMember VisitBody VisitImplMapping VisitUse VisitTopFn VisitTraitDecl VisitStructMapping VisitModMapping
+    VisitMod ReplaceType ReplaceExpr ReplaceFields ReplaceTypeParams ReplaceFn ReplaceImplMember ReplaceBody ReplaceUse ReplaceTopFn ReplaceTrait
+    ReplaceImplDecl ReplaceEnumCase ReplaceEnum ReplaceConst ReplaceTypeDecl ReplaceStruct ReplaceModDecl ReplaceMod get set isAmong finalPath Add
+    ToFinalReplacement ToUseStatements pairs VisitTypeSingle VisitExprSingle VisitTraitName VisitModDeclSingle replaces ReplaceTypeSingle ReplaceExprSingle
+    PathSimplifier mappings pathsToRemove imports applyPrefix apply
 P3-sound = refl
 
 pub P3-points : Point upstream (outside upstream Crate) P3-card P3-made
-unfolding Point UseDecls synonyms unmarkedAll namesBorne lookUp has different le num sameBytes deep encode parse nth tree setNth _▸▸_ count skip first FoldLeft mapAll rowOf contentAt read reading samePath Mod·Fold Fold Replace VisitType VisitTypeParams VisitFields VisitFn VisitMember VisitBody VisitImplMapping VisitUse VisitTopFn VisitTraitDecl VisitStructMapping VisitModMapping VisitMod ReplaceType ReplaceExpr ReplaceFields ReplaceTypeParams ReplaceFn ReplaceImplMember ReplaceBody ReplaceUse ReplaceTopFn ReplaceTrait ReplaceImplDecl ReplaceEnumCase ReplaceEnum ReplaceConst ReplaceTypeDecl ReplaceStruct ReplaceModDecl ReplaceMod get set _among_ Add ToFinalReplacement ToUseStatements pairs VisitTypeSingle VisitExprSingle VisitTraitName VisitModDeclSingle replaces ReplaceTypeSingle ReplaceExprSingle PathSimplifier mappings pathsToRemove imports applyPrefix apply
+unfolding Point UseDecls synonyms unmarkedAll namesBorne lookUp has different le num sameBytes deep encode parse nth tree setNth _▸▸_ count skip first FoldLeft
+    mapAll rowOf contentAt read reading samePath Mod·Fold Fold Replace VisitType VisitTypeParams VisitFields VisitFn VisitMember VisitBody VisitImplMapping
+    VisitUse VisitTopFn VisitTraitDecl VisitStructMapping VisitModMapping VisitMod ReplaceType ReplaceExpr ReplaceFields ReplaceTypeParams ReplaceFn
+    ReplaceImplMember ReplaceBody ReplaceUse ReplaceTopFn ReplaceTrait ReplaceImplDecl ReplaceEnumCase ReplaceEnum ReplaceConst ReplaceTypeDecl ReplaceStruct
+    ReplaceModDecl ReplaceMod get set isAmong finalPath Add ToFinalReplacement ToUseStatements pairs VisitTypeSingle VisitExprSingle VisitTraitName
+    VisitModDeclSingle replaces ReplaceTypeSingle ReplaceExprSingle PathSimplifier mappings pathsToRemove imports applyPrefix apply
 P3-points = (
   refl,
   record { areUses = (refl, refl, tt); areDifferent = refl },
@@ -51,7 +70,12 @@ P3-points = (
 )
 
 pub P8-points : Point upstream (outside upstream Crate) P8-card P8-made
-unfolding Point UseDecls synonyms unmarkedAll namesBorne lookUp has different le num sameBytes deep encode parse nth tree setNth _▸▸_ count skip first FoldLeft mapAll rowOf contentAt read reading samePath Mod·Fold Fold Replace VisitType VisitTypeParams VisitFields VisitFn VisitMember VisitBody VisitImplMapping VisitUse VisitTopFn VisitTraitDecl VisitStructMapping VisitModMapping VisitMod ReplaceType ReplaceExpr ReplaceFields ReplaceTypeParams ReplaceFn ReplaceImplMember ReplaceBody ReplaceUse ReplaceTopFn ReplaceTrait ReplaceImplDecl ReplaceEnumCase ReplaceEnum ReplaceConst ReplaceTypeDecl ReplaceStruct ReplaceModDecl ReplaceMod get set _among_ Add ToFinalReplacement ToUseStatements pairs VisitTypeSingle VisitExprSingle VisitTraitName VisitModDeclSingle replaces ReplaceTypeSingle ReplaceExprSingle PathSimplifier mappings pathsToRemove imports applyPrefix apply
+unfolding Point UseDecls synonyms unmarkedAll namesBorne lookUp has different le num sameBytes deep encode parse nth tree setNth _▸▸_ count skip first FoldLeft
+    mapAll rowOf contentAt read reading samePath Mod·Fold Fold Replace VisitType VisitTypeParams VisitFields VisitFn VisitMember VisitBody VisitImplMapping
+    VisitUse VisitTopFn VisitTraitDecl VisitStructMapping VisitModMapping VisitMod ReplaceType ReplaceExpr ReplaceFields ReplaceTypeParams ReplaceFn
+    ReplaceImplMember ReplaceBody ReplaceUse ReplaceTopFn ReplaceTrait ReplaceImplDecl ReplaceEnumCase ReplaceEnum ReplaceConst ReplaceTypeDecl ReplaceStruct
+    ReplaceModDecl ReplaceMod get set isAmong finalPath Add ToFinalReplacement ToUseStatements pairs VisitTypeSingle VisitExprSingle VisitTraitName
+    VisitModDeclSingle replaces ReplaceTypeSingle ReplaceExprSingle PathSimplifier mappings pathsToRemove imports applyPrefix apply
 P8-points = (
   refl,
   record { areUses = (refl, refl, tt); areDifferent = refl },
@@ -61,7 +85,34 @@ P8-points = (
       (refl, refl),
       (
         (refl, refl),
-        ((refl, ((refl, ((refl, ((refl, refl), ((refl, refl), ((refl, refl), ((refl, tt), (record { name = 114 ∷ 100 ∷ 33 ∷ []; named = refl; finds = λ u. refl }, tt)))))), tt)), tt)), tt),
+        (
+          (
+            refl,
+            (
+              (
+                refl,
+                (
+                  (
+                    refl,
+                    (
+                      (refl, refl),
+                      (
+                        (refl, refl),
+                        (
+                          (refl, refl),
+                          ((refl, tt), (record { name = 114 ∷ 100 ∷ 33 ∷ []; named = refl; finds = λ u. refl }, tt)),
+                        ),
+                      ),
+                    ),
+                  ),
+                  tt,
+                ),
+              ),
+              tt,
+            ),
+          ),
+          tt,
+        ),
       ),
     ),
   ),
@@ -69,7 +120,12 @@ P8-points = (
 
 -- in the nested module, under the prefix crate::m::b::b
 pub P13-points : Point upstream (outside upstream Crate) P13-card P13-made
-unfolding Point UseDecls synonyms unmarkedAll namesBorne lookUp has different le num sameBytes deep encode parse nth tree setNth _▸▸_ count skip first FoldLeft mapAll rowOf contentAt read reading samePath Mod·Fold Fold Replace VisitType VisitTypeParams VisitFields VisitFn VisitMember VisitBody VisitImplMapping VisitUse VisitTopFn VisitTraitDecl VisitStructMapping VisitModMapping VisitMod ReplaceType ReplaceExpr ReplaceFields ReplaceTypeParams ReplaceFn ReplaceImplMember ReplaceBody ReplaceUse ReplaceTopFn ReplaceTrait ReplaceImplDecl ReplaceEnumCase ReplaceEnum ReplaceConst ReplaceTypeDecl ReplaceStruct ReplaceModDecl ReplaceMod get set _among_ Add ToFinalReplacement ToUseStatements pairs VisitTypeSingle VisitExprSingle VisitTraitName VisitModDeclSingle replaces ReplaceTypeSingle ReplaceExprSingle PathSimplifier mappings pathsToRemove imports applyPrefix apply
+unfolding Point UseDecls synonyms unmarkedAll namesBorne lookUp has different le num sameBytes deep encode parse nth tree setNth _▸▸_ count skip first FoldLeft
+    mapAll rowOf contentAt read reading samePath Mod·Fold Fold Replace VisitType VisitTypeParams VisitFields VisitFn VisitMember VisitBody VisitImplMapping
+    VisitUse VisitTopFn VisitTraitDecl VisitStructMapping VisitModMapping VisitMod ReplaceType ReplaceExpr ReplaceFields ReplaceTypeParams ReplaceFn
+    ReplaceImplMember ReplaceBody ReplaceUse ReplaceTopFn ReplaceTrait ReplaceImplDecl ReplaceEnumCase ReplaceEnum ReplaceConst ReplaceTypeDecl ReplaceStruct
+    ReplaceModDecl ReplaceMod get set isAmong finalPath Add ToFinalReplacement ToUseStatements pairs VisitTypeSingle VisitExprSingle VisitTraitName
+    VisitModDeclSingle replaces ReplaceTypeSingle ReplaceExprSingle PathSimplifier mappings pathsToRemove imports applyPrefix apply
 P13-points = (
   refl,
   record { areUses = tt; areDifferent = refl },
@@ -99,9 +155,51 @@ P13-points = (
                             (
                               refl,
                               (
-                                (refl, ((refl, ((refl, refl), ((refl, refl), ((refl, refl), (record { name = 88 ∷ []; more = 0; wrapped = refl; finds = λ u. refl }, ((refl, ((refl, refl), tt)), tt)))))), tt)),
                                 (
-                                  (refl, ((refl, ((refl, refl), ((refl, refl), ((refl, refl), (record { name = 89 ∷ []; more = 0; wrapped = refl; finds = λ u. refl }, ((refl, ((refl, refl), tt)), tt)))))), tt)),
+                                  refl,
+                                  (
+                                    (
+                                      refl,
+                                      (
+                                        (refl, refl),
+                                        (
+                                          (refl, refl),
+                                          (
+                                            (refl, refl),
+                                            (
+                                              record { name = 88 ∷ []; more = 0; wrapped = refl; finds = λ u. refl },
+                                              ((refl, ((refl, refl), tt)), tt),
+                                            ),
+                                          ),
+                                        ),
+                                      ),
+                                    ),
+                                    tt,
+                                  ),
+                                ),
+                                (
+                                  (
+                                    refl,
+                                    (
+                                      (
+                                        refl,
+                                        (
+                                          (refl, refl),
+                                          (
+                                            (refl, refl),
+                                            (
+                                              (refl, refl),
+                                              (
+                                                record { name = 89 ∷ []; more = 0; wrapped = refl; finds = λ u. refl },
+                                                ((refl, ((refl, refl), tt)), tt),
+                                              ),
+                                            ),
+                                          ),
+                                        ),
+                                      ),
+                                      tt,
+                                    ),
+                                  ),
                                   tt,
                                 ),
                               ),

@@ -12,7 +12,8 @@ use Rattle.rast.specs.Operation.{upstream}
 use Rattle.factor_paths.specs.Mapping.{useDecl}
 use Rattle.factor_paths.specs.Apply.{TIdentifier, TSynonym, Identifier}
 use Rattle.outcome.specs.Outcome.{Outcome, shorten}
-use Rattle.proved_cards.specs.Builders.{Crate, Bool′, TypeFromPath, Borrowed, RawExpr, ExprFromType, ExprFromPath, Mod, ExternMod, ModDecl, ImplDecl, Impl, constant, struct, Field, function}
+use Rattle.proved_cards.specs.Builders.{Crate, Bool′, TypeFromPath, Borrowed, RawExpr, ExprFromType, ExprFromPath, Mod, ExternMod, ModDecl, ImplDecl}
+use Rattle.proved_cards.specs.Builders.{Impl, constant, struct, Field, function}
 
 -- a card, its length, the length of the out buffer that is lent with it; the answer's number and its length or place, and the output (of a refusal: none)
 pub record ProvedCard : Type 0 where

@@ -6,31 +6,36 @@ use Rattle.records.proofs.Hereditary.{Hereditary, always, children-in, field-in
 use Rattle.rast.specs.Path.{Path}
 use Rattle.rast.specs.Mod.{ExternMod?, Mod·Fold}
 use Rattle.rast.specs.Fold.{Role, aType, anExpr, holds, other, role, visit, unless, Fold, FoldParts, Type·Fold, Expr·Fold}
-use Rattle.rast.specs.Visitor.{RASTTopDownVisitor, VisitType, VisitTypeParams, VisitFields, VisitFn, VisitMember, VisitBody, VisitImplMapping, VisitUse, VisitTopFn, VisitTraitDecl, VisitStructMapping, VisitModMapping, VisitMod}
+use Rattle.rast.specs.Visitor.{RASTTopDownVisitor, VisitType, VisitTypeParams, VisitFields, VisitFn, VisitMember, VisitBody, VisitImplMapping, VisitUse}
+use Rattle.rast.specs.Visitor.{VisitTopFn, VisitTraitDecl, VisitStructMapping, VisitModMapping, VisitMod}
 use Rattle.rast.proofs.Tests.{either, one-of}
 
 -- where something hereditary holds of what is visited, the single functions need keep P only at records of which it holds
 module _ {S : Record → Type 0} {SA : Records → Type 0} (H : Hereditary S SA) where
   -- what each step keeps between two accumulators, two folds over the same records keep
-  pub folds-keep-in : {A T : Type 0} (R : A → T → Type 0) (f : A → Record → A) (g : T → Record → T) → ((s : A) (t : T) (r : Record) → S r → R s t → R (f s r) (g t r))
+  pub folds-keep-in : {A T : Type 0} (R : A → T → Type 0) (f : A → Record → A) (g : T → Record → T)
+      → ((s : A) (t : T) (r : Record) → S r → R s t → R (f s r) (g t r))
       → (s : A) (t : T) (c : Records) → SA c → R s t → R (FoldLeft f s c) (FoldLeft g t c)
   unfolding FoldLeft
   folds-keep-in R f g h s t nil a p = p
   folds-keep-in R f g h s t (r ▸ c) a p = folds-keep-in R f g h (f s r) (g t r) c (H .rest a) (h s t r (H .first a) p)
 
   -- and so two folds over the declarations of a module
-  pub modules-keep-in : {A T : Type 0} (R : A → T → Type 0) (f : A → Record → A) (g : T → Record → T) → ((s : A) (t : T) (r : Record) → S r → R s t → R (f s r) (g t r))
+  pub modules-keep-in : {A T : Type 0} (R : A → T → Type 0) (f : A → Record → A) (g : T → Record → T)
+      → ((s : A) (t : T) (r : Record) → S r → R s t → R (f s r) (g t r))
       → (s : A) (t : T) (m : Record) → S m → R s t → R (Mod·Fold m s f) (Mod·Fold m t g)
   unfolding Mod·Fold
   modules-keep-in R f g h s t m a p = either R (ExternMod? m) p (folds-keep-in R f g h s t (children (field 3 m)) (children-in H (field-in H 3 a)) p)
 
   module _ {T : Type 0} (P : T → Type 0) where
     -- what each step keeps, a fold over a record's records keeps
-    fold-keeps : (f : T → Record → T) → ((acc : T) (r : Record) → S r → P acc → P (f acc r)) → (acc : T) (r : Record) → S r → P acc → P (FoldLeft f acc (children r))
+    fold-keeps : (f : T → Record → T) → ((acc : T) (r : Record) → S r → P acc → P (f acc r)) → (acc : T) (r : Record) → S r → P acc
+        → P (FoldLeft f acc (children r))
     fold-keeps f h acc r a = folds-keep-in (λ (s t : T). P t) f f (λ s t. h t) acc acc (children r) (children-in H a)
 
     module _ (f ft : T → Record → T) (hf : (acc : T) (e : Record) → S e → P acc → P (f acc e)) (ht : (acc : T) (t : Record) → S t → P acc → P (ft acc t)) where
-      visit-keeps : (k : Role) (this : Record) (parts : T → T) → S this → ((acc : T) → P acc → P (parts acc)) → (acc : T) → P acc → P (visit f ft k acc this parts)
+      visit-keeps : (k : Role) (this : Record) (parts : T → T) → S this → ((acc : T) → P acc → P (parts acc)) → (acc : T) → P acc
+          → P (visit f ft k acc this parts)
       visit-keeps aType this parts a h acc p = h _ (ht acc this a p)
       visit-keeps anExpr this parts a h acc p = h _ (hf acc this a p)
       visit-keeps holds this parts a h acc p = h acc p
@@ -81,7 +86,8 @@ module _ {S : Record → Type 0} {SA : Records → Type 0} (H : Hereditary S SA)
       VisitFields-keeps-in acc fields a p =
           one-of (at fields) (is 0x75 fields)
           (fold-keeps _ (λ acc f a. VisitType-keeps-in acc (field 1 (field 1 f)) (field-in H 1 (field-in H 1 a))) acc (field 0 fields) (field-in H 0 a) p)
-          (one-of (at fields) (is 0x76 fields) (fold-keeps _ (λ acc f a. VisitType-keeps-in acc (field 1 f) (field-in H 1 a)) acc (field 0 fields) (field-in H 0 a) p)
+          (one-of (at fields) (is 0x76 fields) (fold-keeps _ (λ acc f a. VisitType-keeps-in acc (field 1 f) (field-in H 1 a)) acc (field 0 fields)
+          (field-in H 0 a) p)
           p)
 
       -- of a function
@@ -143,7 +149,8 @@ module _ {S : Record → Type 0} {SA : Records → Type 0} (H : Hereditary S SA)
       VisitStructMapping-keeps-in acc struct a = VisitTypeParams-keeps-in acc (field 3 struct) (field-in H 3 a)
 
       -- what holds once the declaration itself is visited, holds once its parts are
-      pub VisitModMapping-keeps-in : (acc : T) (d : Record) (SelfPath : Path) → S d → P (this .VisitModDeclSingle acc d SelfPath) → P (VisitModMapping this acc d SelfPath)
+      pub VisitModMapping-keeps-in : (acc : T) (d : Record) (SelfPath : Path) → S d → P (this .VisitModDeclSingle acc d SelfPath)
+          → P (VisitModMapping this acc d SelfPath)
       unfolding VisitModMapping
       VisitModMapping-keeps-in acc d SelfPath a p =
           let it = field 0 d in
@@ -153,7 +160,8 @@ module _ {S : Record → Type 0} {SA : Records → Type 0} (H : Hereditary S SA)
           (one-of (at d) (is 0x64 d) (VisitType-keeps-in _ (field 4 it) (field-in H 4 b) (VisitTypeParams-keeps-in _ (field 3 it) (field-in H 3 b) p))
           (one-of (at d) (is 0x65 d) (expr-fold-keeps _ (field 4 it) (field-in H 4 b) (VisitType-keeps-in _ (field 3 it) (field-in H 3 b) p))
           (one-of (at d) (is 0x66 d)
-          (fold-keeps _ (λ acc c a. VisitFields-keeps-in acc (field 2 c) (field-in H 2 a)) _ (field 4 it) (field-in H 4 b) (VisitTypeParams-keeps-in _ (field 3 it) (field-in H 3 b) p))
+          (fold-keeps _ (λ acc c a. VisitFields-keeps-in acc (field 2 c) (field-in H 2 a)) _ (field 4 it) (field-in H 4 b)
+          (VisitTypeParams-keeps-in _ (field 3 it) (field-in H 3 b) p))
           (one-of (at d) (is 0x67 d) (VisitImplMapping-keeps-in _ it b p)
           (one-of (at d) (is 0x68 d) (VisitTraitDecl-keeps-in _ it b p)
           (one-of (at d) (is 0x69 d) (VisitTopFn-keeps-in _ it b p)

@@ -1,4 +1,5 @@
 pub mod Tests
 pub mod Names
 pub mod Keeps
+pub mod Chosen
 pub mod Worked

@@ -31,7 +31,8 @@ both true b f g h = rw (f refl) (g h)
 both false b f g h = cc
 
 -- and twice over
-pub both-twice : (a b c d : Bool) {e f : Bool} → (a ≡ true → c ≡ true → e ≡ true) → (b ≡ true → d ≡ true → f ≡ true) → (a && b) ≡ true → (c && d) ≡ true → (e && f) ≡ true
+pub both-twice : (a b c d : Bool) {e f : Bool} → (a ≡ true → c ≡ true → e ≡ true) → (b ≡ true → d ≡ true → f ≡ true) → (a && b) ≡ true → (c && d) ≡ true
+    → (e && f) ≡ true
 both-twice true b c d f g h i = both c d (f refl) (g h) i
 both-twice false b c d f g h i = cc
 

@@ -1,4 +1,5 @@
 pub mod Path
+pub mod Final
 pub mod Operation
 pub mod Mod
 pub mod Fold

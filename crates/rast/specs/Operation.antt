@@ -1,9 +1,12 @@
 -- What may differ between one operation and another, and the values of the operation that the Dafny text defines. Assumes nothing: these are definitions.
-use mathlib.Core.Bool.{Bool, true}
+use mathlib.Core.List.{List}
+use mathlib.Core.Bool.{Bool, true, cond}
+use mathlib.Core.Option.{Option}
 use Prim.Native.Nat.{ℕ}
 use Rattle.wire.specs.Numbers.{sameBytes}
 use Rattle.records.specs.Kinds.{Place, mod′}
-use Rattle.rast.specs.Path.{Name, Path, MSel}
+use Rattle.rast.specs.Path.{Name, Path, MSel, «dafny_runtime», samePath}
+use Rattle.rast.specs.Final.{finalPath}
 
 pub record Operation : Type 0 where
   -- 01, "The console's answers": the limits of 1, 2, 3, 6 and 8 (mostPairs, for a number of lent words), and where the outermost record stands
@@ -16,14 +19,20 @@ pub record Operation : Type 0 where
   pub outermost : Place
   -- when two names are the same
   pub sameName : Name → Name → Bool
-  -- what PathSimplifier's ReplaceModSingle makes of the path that it is handed, and of the module's name
-  pub entering : Path → Name → Path
+  -- whether PathSimplifier's ReplaceModSingle adds the module's name to the path that it is handed
+  pub namesAgain : Bool
   -- whether ReplaceFn hands ReplaceType and ReplaceExpr to Replace, which walk again
   pub walksAgain : Bool
+  -- the base chosen among those of a name, given SelfPath
+  pub chosenBase : Path → List Path → Option Path
+
+-- what PathSimplifier's ReplaceModSingle makes of the path that it is handed, and of the module's name
+abbrev pub entering : Operation → Path → Name → Path
+entering op SelfPath name = cond (op .namesAgain) (MSel SelfPath name) SelfPath
 
 -- the prefix of a module of this name in one whose prefix is SelfPath: ReplaceModDecl adds the name, and then PathSimplifier enters it
 abbrev pub nested : Operation → Path → Name → Path
-nested op SelfPath name = op .entering (MSel SelfPath name) name
+nested op SelfPath name = entering op (MSel SelfPath name) name
 
 abbrev pub upstream : Operation
 upstream =
@@ -36,6 +45,7 @@ upstream =
       mostPairs = λ words. 512;
       outermost = mod′;
       sameName = sameBytes;
-      entering = MSel;
+      namesAgain = true;
       walksAgain = true;
+      chosenBase = finalPath (samePath sameBytes) «dafny_runtime»;
     }

@@ -1,4 +1,5 @@
--- RASTBottomUpReplacer of RAST, function by function. A field is given by its place in its constructor, and the constructor beside its kind. Assumes nothing: these are definitions.
+-- RASTBottomUpReplacer of RAST, function by function. A field is given by its place in its constructor, and the constructor beside its kind. Assumes nothing:
+-- these are definitions.
 use mathlib.Core.List.{[], _∷_}
 use mathlib.Core.Bool.{cond}
 use Rattle.records.specs.Record.{Record, Records, nil, _▸_, _▸▸_, update, put, Map}
@@ -65,7 +66,8 @@ module _ (op : Operation) (this : RASTBottomUpReplacer) where
   unfoldable pub ReplaceImplDecl : Record → Record
   ReplaceImplDecl impl =
       match impl (
-      case 0x79 (λ r. update 0 ReplaceTypeParams (update 1 ReplaceType (update 2 ReplaceType (update 3 ReplaceBody r))))  -- ImplFor(typeParams, tpe, forType, body)
+      -- ImplFor(typeParams, tpe, forType, body)
+      case 0x79 (λ r. update 0 ReplaceTypeParams (update 1 ReplaceType (update 2 ReplaceType (update 3 ReplaceBody r))))
       ∷ case 0x7A (λ r. update 0 ReplaceTypeParams (update 1 ReplaceType (update 2 ReplaceBody r)))  -- Impl(typeParams, tpe, body)
       ∷ []
       ) (λ r. r)

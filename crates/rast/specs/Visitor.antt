@@ -50,7 +50,8 @@ module _ {T : Type 0} (this : RASTTopDownVisitor T) where
   unfoldable pub VisitImplMapping : T → Record → T
   VisitImplMapping acc impl =
       match impl (
-      case 0x79 (λ r. VisitBody (VisitType (VisitType (VisitTypeParams acc (field 0 r)) (field 1 r)) (field 2 r)) (field 3 r))  -- ImplFor(typeParams, tpe, forType, body)
+      -- ImplFor(typeParams, tpe, forType, body)
+      case 0x79 (λ r. VisitBody (VisitType (VisitType (VisitTypeParams acc (field 0 r)) (field 1 r)) (field 2 r)) (field 3 r))
       ∷ case 0x7A (λ r. VisitBody (VisitType acc (field 1 r)) (field 2 r))  -- Impl(typeParams, tpe, body)
       ∷ []
       ) (λ r. acc)
@@ -79,8 +80,10 @@ module _ {T : Type 0} (this : RASTTopDownVisitor T) where
       case 0x62 (λ r. acc)  -- ModDecl(mod)
       ∷ case 0x63 (λ r. VisitStructMapping acc it)  -- StructDecl(struct)
       ∷ case 0x64 (λ r. VisitType (VisitTypeParams acc (field 3 it)) (field 4 it))  -- TypeDecl(TypeSynonym(attributes, _, name, typeParams, tpe))
-      ∷ case 0x65 (λ r. Expr·Fold (field 4 it) (VisitType acc (field 3 it)) (this .VisitExprSingle) (this .VisitTypeSingle))  -- ConstDecl(Constant(attributes, _, name, tpe, value))
-      ∷ case 0x66 (λ r. FoldLeft (λ acc enumCase. VisitFields acc (field 2 enumCase)) (VisitTypeParams acc (field 3 it)) (children (field 4 it)))  -- EnumDecl(Enum(attributes, _, name, typeParams, variants))
+      -- ConstDecl(Constant(attributes, _, name, tpe, value))
+      ∷ case 0x65 (λ r. Expr·Fold (field 4 it) (VisitType acc (field 3 it)) (this .VisitExprSingle) (this .VisitTypeSingle))
+      -- EnumDecl(Enum(attributes, _, name, typeParams, variants))
+      ∷ case 0x66 (λ r. FoldLeft (λ acc enumCase. VisitFields acc (field 2 enumCase)) (VisitTypeParams acc (field 3 it)) (children (field 4 it)))
       ∷ case 0x67 (λ r. VisitImplMapping acc it)  -- ImplDecl(impl)
       ∷ case 0x68 (λ r. VisitTraitDecl acc it)  -- TraitDecl(tr)
       ∷ case 0x69 (λ r. VisitTopFn acc it)  -- TopFnDecl(fn)

@@ -4,7 +4,7 @@ ghost use mathlib.Core.Path.{_≡_};
 ghost use Prim.Native.Nat.{_+_, _^_, _<_, _≤_};
 ghost use lib.ListN.{take, drop};
 ghost use Rattle.wire.specs.Numbers.{num};
-ghost use Rattle.records.specs.Record.{lengthOf, kindOf, contentOf, restOf};
+ghost use Rattle.records.specs.Record.{lengthOf, kindOf, contentOf, restOf, firstRecord, recordAt};
 ghost use Rattle.records.specs.Reading.{short};
 
 // The number in w bytes of a slice, the lowest first, from a place on; what lies past its end counts as nothing.
@@ -83,14 +83,14 @@ pub fn rest(s: &[u8]) -> &[u8]
 
 // The record's own bytes.
 pub fn record(s: &[u8]) -> &[u8]
-    ensures { λ r. ⌜ now r ≡ take (4 + lengthOf (now (s .entry))) (now (s .entry)) ⌝ }
+    ensures { λ r. ⌜ now r ≡ firstRecord (now (s .entry)) ⌝ }
 {
     wire::part(s, 0, record_length(s) + 4)
 }
 
 // The bytes of the record at a place.
 pub fn record_at(s: &[u8], at: usize) -> &[u8]
-    ensures { λ r. ⌜ now r ≡ take (4 + lengthOf (drop at (now (s .entry)))) (drop at (now (s .entry))) ⌝ }
+    ensures { λ r. ⌜ now r ≡ recordAt (now (s .entry)) at ⌝ }
 {
     record(wire::part(s, at, s.len()))
 }

@@ -13,10 +13,6 @@ pub extern "C" fn vegashol_admit(card: &[u8], root: &[u8], words: usize) -> u64
     let v = admission::admit(card, root, words);
     match v {
         Verdict::Sound => 0,
-        Verdict::Refused(a) => {
-            let n = answers::number(a) as u64;
-            let p = answers::value(a) as u64;
-            n * 4294967296 + p
-        }
+        Verdict::Refused(a) => answers::packed(a),
     }
 }

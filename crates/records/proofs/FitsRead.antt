@@ -11,7 +11,8 @@ use Rattle.records.specs.Record.{Record, Records, leaf, node, nil, _▸_
 use Rattle.records.specs.Kinds.{Place, stands, Content, bytes, these, any, atMostOne, contentAt}
 use Rattle.records.specs.Reading.{done, record-at, next, read, reading}
 use Rattle.records.proofs.Fits.{Fits, FitsAll}
-use Rattle.records.proofs.Tree.{record-length, front-kind, front-content, front-rest, front-short, Canonical, CanonicalAll, tree-encode}
+use Rattle.records.specs.Canonical.{Canonical, CanonicalAll}
+use Rattle.records.proofs.Tree.{record-length, front-kind, front-content, front-rest, front-short, tree-encode}
 use Rattle.records.proofs.Step.{read-bytes, read-done, Next-sound, stepped-read}
 use Rattle.records.proofs.Sound.{ReadsAs}
 

@@ -8,7 +8,8 @@ use lib.ListN.{length, drop}
 use Rattle.wire.specs.Numbers.{Bytes, le}
 use Rattle.records.specs.Record.{Record, leaf, node, recordBytes, encode, encodeAll, lengthOf, kindOf, contentOf, restOf, kind}
 use Rattle.records.specs.Reading.{short}
-use Rattle.records.proofs.Tree.{record-length, front-length, front-kind, front-content, front-rest, front-short, Canonical}
+use Rattle.records.specs.Canonical.{Canonical}
+use Rattle.records.proofs.Tree.{record-length, front-length, front-kind, front-content, front-rest, front-short}
 
 -- what stands after the length and the kind
 abbrev pub inside : Record → Bytes

@@ -11,7 +11,8 @@ use Rattle.wire.specs.Numbers.{Bytes}
 use Rattle.records.specs.Record.{Record, Records, leaf, node, nil, _▸_, _▸▸_, mapAll, isLeaf, encode, encodeAll}
 use Rattle.records.specs.Kinds.{Place, Content, bytes, these, any, atMostOne, contentAt}
 use Rattle.records.proofs.Fits.{Fits, FitsAll}
-use Rattle.records.proofs.Tree.{Canonical, CanonicalAll, record-length}
+use Rattle.records.specs.Canonical.{Canonical, CanonicalAll}
+use Rattle.records.proofs.Tree.{record-length}
 use Rattle.records.proofs.Step.{content-leaf}
 use Rattle.records.specs.Kinds.{ofBytes}
 use Rattle.records.proofs.Closed.{Of, OfAll, holdsAt, closed, fits-of}

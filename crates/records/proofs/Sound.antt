@@ -12,8 +12,9 @@ use Rattle.records.specs.Record.{restOf, parse, nth, tree, deep, deepAll
 use Rattle.records.specs.Kinds.{Place, stands, Content, bytes, these, any, atMostOne, contentAt}
 use Rattle.records.specs.Reading.{Next, done, leftOver, record-at, next, short, read, reading}
 use Rattle.records.proofs.Fits.{Fits, FitsAll}
+use Rattle.records.specs.Canonical.{Canonical, CanonicalAll}
 use Rattle.records.proofs.Tree.{long-enough, content-length, rest-length, content-bytes, rest-bytes, kind-small, length-small}
-use Rattle.records.proofs.Tree.{record-split, parse-step, parse-nil, Canonical, CanonicalAll}
+use Rattle.records.proofs.Tree.{record-split, parse-step, parse-nil}
 use Rattle.records.proofs.Step.{ofBytes-true, content-leaf, next-done, next-more, Next-sound, read-stepped, read-leftOver}
 use Rattle.records.specs.Kinds.{ofBytes}
 

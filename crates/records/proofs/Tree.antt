@@ -14,6 +14,7 @@ use Rattle.wire.proofs.Numbers.{le-length, le-num, num-le, num-below, take-byte
 use Rattle.records.specs.Record.{Record, Records, leaf, node, nil, _▸_, isLeaf, recordBytes, encode, encodeAll, lengthOf, kindOf}
 use Rattle.records.specs.Record.{contentOf, restOf, parse, nth, tree}
 use Rattle.records.specs.Reading.{short}
+use Rattle.records.specs.Canonical.{Canonical, CanonicalAll}
 
 -- what is not too short for a record: its length, its kind and as many bytes as its length counts
 pub record Enough (s : Bytes) : Type 0 where
@@ -151,16 +152,6 @@ pub parse-nil : (n : ℕ) → parse n [] ≡ nil
 unfolding parse
 parse-nil zero = refl
 parse-nil (suc n) = refl
-
--- a tree that parse finds again: a leaf of a leaf's kind, a node of another, each kind and each length in its bytes
-unfoldable mutual
-  pub Canonical : Record → Type 0
-  Canonical (leaf k b) = (isLeaf k ≡ true) × (k < 65536) × (2 + length b < 2 ^ 32)
-  Canonical (node k c) = (isLeaf k ≡ false) × (k < 65536) × (2 + length (encodeAll c) < 2 ^ 32) × CanonicalAll c
-
-  pub CanonicalAll : Records → Type 0
-  CanonicalAll nil = Unit {0}
-  CanonicalAll (r ▸ c) = Canonical r × CanonicalAll c
 
 -- a record's bytes are at least six
 pub encode-six : (r : Record) → 6 ≤ length (encode r)

@@ -1,3 +1,4 @@
 pub mod Record
 pub mod Kinds
 pub mod Reading
+pub mod Canonical

@@ -56,6 +56,13 @@ contentOf s = take (lengthOf s - 2) (drop 6 s)
 abbrev pub restOf : Bytes → Bytes
 restOf s = drop (4 + lengthOf s) s
 
+-- the bytes of the record at the front of s, and of the one at a place of the card
+abbrev pub firstRecord : Bytes → Bytes
+firstRecord s = take (4 + lengthOf s) s
+
+abbrev pub recordAt : Bytes → ℕ → Bytes
+recordAt card at = firstRecord (drop at card)
+
 -- bytes read as records; n bounds how many follow or hold one another, and as many as there are bytes suffice
 unfoldable pub parse : ℕ → Bytes → Records
 parse zero s = nil

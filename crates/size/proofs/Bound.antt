@@ -50,14 +50,17 @@ module _ (rep : FinalReplacement) (f : Record → Path → Record) (grows : Grow
       subst Fine (sym (n .is-node)) (by-row (mod′ ∷ []) (λ c. Fine (node 0x62 c)) nested-size (children d) (n .fits)))
       (λ e l. rw e (declared-size upstream rep d h l))
 
-  decls-size : (c : Records) → FitsAll c (any (kinds 0x62 0x6A)) → deepAll c ≤ 46 → sizeAll (mapAll (walkDecl upstream rep f S) c) + chargeAll c ≤ 42 * sizeAll c
+  decls-size : (c : Records) → FitsAll c (any (kinds 0x62 0x6A)) → deepAll c ≤ 46
+      → sizeAll (mapAll (walkDecl upstream rep f S) c) + chargeAll c ≤ 42 * sizeAll c
   unfolding mapAll deep size charge
   decls-size =
-      by-seq Fine (λ c. deepAll c ≤ 46 → sizeAll (mapAll (walkDecl upstream rep f S) c) + chargeAll c ≤ 42 * sizeAll c) (kinds 0x62 0x6A) decl-size (λ l. omega arith)
+      by-seq Fine (λ c. deepAll c ≤ 46 → sizeAll (mapAll (walkDecl upstream rep f S) c) + chargeAll c ≤ 42 * sizeAll c) (kinds 0x62 0x6A) decl-size
+      (λ l. omega arith)
       (λ d c h hs l. let i = h (omega arith) in let j = hs (omega arith) in omega arith)
 
 -- a Mod, its uses and its declarations
-mod-size : (n : ℕ) → Grows (applyPrefix upstream n) → (m : Record) (S : Path) → ModFields m → deep m ≤ 48 → size (applyPrefix upstream (suc n) m S) ≤ 42 * size m
+mod-size : (n : ℕ) → Grows (applyPrefix upstream n) → (m : Record) (S : Path) → ModFields m → deep m ≤ 48
+    → size (applyPrefix upstream (suc n) m S) ≤ 42 * size m
 unfolding size deep
 mod-size n grows m S h l =
     let body = mapAll (walkDecl upstream (pathsToRemove upstream m S) (applyPrefix upstream n) S) (h .body) in
@@ -86,6 +89,7 @@ card-bound root card h e =
     rw (r .encoded) at (output-bound root (tree card) (r .fits) (r .shallow))
 
 -- so the four bytes of a record's length hold an output's
-pub output-small : (root : Path) (card : Bytes) → AreBytes card → reading (upstream .cardDepth) (upstream .outermost) card ≡ Sound → length card ≤ upstream .mostCardBytes
+pub output-small : (root : Path) (card : Bytes) → AreBytes card → reading (upstream .cardDepth) (upstream .outermost) card ≡ Sound
+    → length card ≤ upstream .mostCardBytes
     → length (encode (apply upstream root (tree card))) < 2 ^ 32
 output-small root card h e l = let b = card-bound root card h e in omega arith

@@ -21,7 +21,8 @@ use Rattle.size.proofs.Walked.{charge, counts, Room, Starts, Fns, FnsAl
 
 -- only a Fn is walked as one
 fn-kind : (k : ℕ) → stepOf k ≡ aFn → k ≡ 0x7D
-fn-kind k e = eqb-true k 0x7D (go (stands type k) (stands expr k) (eqb k 0x7D) (isLeaf k || stands path k || stands (kinds 0x60 0x62) k || eqb k 0x6A || eqb k 0x80) e)
+fn-kind k e =
+    eqb-true k 0x7D (go (stands type k) (stands expr k) (eqb k 0x7D) (isLeaf k || stands path k || stands (kinds 0x60 0x62) k || eqb k 0x6A || eqb k 0x80) e)
   where
     go : (t u v l : Bool) → cond t aType (cond u anExpr (cond v aFn (cond l left holds))) ≡ aFn → v ≡ true
     go true u v l e = cc
@@ -69,7 +70,8 @@ mutual
   fits-fns-all (r ▸ c) (atMostOne p) f h = (fits-fns r p (f .0) (omega arith), fits-fns-all c (these []) (f .1) (omega arith))
 
 -- a Fn lies two deeper than a declaration, or deeper
-declared-fns : (k : ℕ) (p : Place) → eqb k 0x7D ≡ false → stands p 0x7D ≡ false → (r : Record) → Fits r p → deep (node k (r ▸ nil)) ≤ 46 → Fns (node k (r ▸ nil))
+declared-fns : (k : ℕ) (p : Place) → eqb k 0x7D ≡ false → stands p 0x7D ≡ false → (r : Record) → Fits r p → deep (node k (r ▸ nil)) ≤ 46
+    → Fns (node k (r ▸ nil))
 unfolding Fits Fns deep
 declared-fns k p n s r f h = ((λ e. absurd (false≢true (sym n ∙ eq-eqb k 0x7D (fn-kind k e)))), held r f (omega arith) ⨾ tt)
   where
@@ -78,7 +80,8 @@ declared-fns k p n s r f h = ((λ e. absurd (false≢true (sym n ∙ eq-eqb k 0x
     held (node j c) f h = ((λ e. absurd (false≢true (sym s ∙ (rw (fn-kind j e) at (f .0))))), fits-fns-all c (contentAt p j) (f .1) (omega arith))
 
 -- what the walk makes of a declaration, with what its paths are charged, is at most 42 times as large
-pub declared-size : (op : Operation) (rep : FinalReplacement) (d : Record) → Fits d (kinds 0x62 0x6A) → deep d ≤ 46 → size (walk op rep false 1 d) + charge d ≤ 42 * size d
+pub declared-size : (op : Operation) (rep : FinalReplacement) (d : Record) → Fits d (kinds 0x62 0x6A) → deep d ≤ 46
+    → size (walk op rep false 1 d) + charge d ≤ 42 * size d
 unfolding rowOf
 declared-size op rep d f h =
     walk-size op rep d false 1 (fits-paths d (kinds 0x62 0x6A) f)

@@ -18,7 +18,8 @@ use Rattle.rast.specs.Fold.{Fold}
 use Rattle.rast.specs.Replace.{Replace}
 use Rattle.rast.specs.Visitor.{VisitTypeParams, VisitFn, VisitTopFn, VisitModMapping, VisitMod}
 use Rattle.rast.specs.Replacer.{ReplaceType, ReplaceExpr, ReplaceTypeParams, ReplaceFn, ReplaceTopFn, ReplaceModDecl, ReplaceMod}
-use Rattle.factor_paths.specs.Mapping.{get, set, _among_, Add, ToFinalReplacement, ToUseStatements}
+use Rattle.rast.specs.Final.{isAmong, finalPath}
+use Rattle.factor_paths.specs.Mapping.{get, set, Add, ToFinalReplacement, ToUseStatements}
 use Rattle.factor_paths.specs.PathsVisitor.{VisitTypeSingle, VisitExprSingle, VisitModDeclSingle}
 use Rattle.factor_paths.specs.Apply.{replaces, ReplaceTypeSingle, ReplaceExprSingle, PathSimplifier, mappings, pathsToRemove, imports, applyPrefix, apply}
 use Rattle.size.proofs.Sizes.{size}
@@ -105,7 +106,7 @@ worst-deep = lit≤ tt
 
 worst-size : ltb (41 * size worst) (size (apply upstream Global worst)) ≡ true
 unfolding sameBytes _▸▸_ deep nth setNth FoldLeft mapAll samePath Mod·Fold Fold Replace VisitTypeParams VisitFn VisitTopFn VisitModMapping VisitMod
-    ReplaceType ReplaceExpr ReplaceTypeParams ReplaceFn ReplaceTopFn ReplaceModDecl ReplaceMod get set _among_ Add ToFinalReplacement ToUseStatements
+    ReplaceType ReplaceExpr ReplaceTypeParams ReplaceFn ReplaceTopFn ReplaceModDecl ReplaceMod get set isAmong finalPath Add ToFinalReplacement ToUseStatements
     VisitTypeSingle VisitExprSingle VisitModDeclSingle replaces ReplaceTypeSingle ReplaceExprSingle PathSimplifier mappings pathsToRemove imports
     applyPrefix apply size
 worst-size = refl

@@ -12,15 +12,18 @@ use Rattle.wire.specs.Numbers.{sameBytes}
 use Rattle.wire.proofs.Numbers.{sameBytes-true}
 use Rattle.records.specs.Record.{Record, node, nil, _▸_, nth}
 use Rattle.rast.specs.Path.{Name, Path, MSel, Self, Selected, selected, whether, «dafny_runtime»}
+use Rattle.rast.specs.Final.{isAmong}
 use Rattle.rast.specs.Operation.{upstream}
+use Rattle.rast.proofs.Chosen.{upstream-chooses}
 use Rattle.rast.proofs.Names.{upstream-names, turned, paths, same-equal}
 use Rattle.rast.proofs.Tests.{by-test, by-option, one-of}
-use Rattle.factor_paths.specs.Mapping.{Entry, entry, Provenance, Mapping, noMapping, FinalReplacement, equal, get, set, _among_, include, Add, ToFinalReplacement, ToUseStatements}
+use Rattle.factor_paths.specs.Mapping.{Entry, entry, Provenance, Mapping, noMapping, FinalReplacement, equal, get, set, _among_, include, Add}
+use Rattle.factor_paths.specs.Mapping.{ToFinalReplacement, ToUseStatements}
 use Rattle.factor_paths.specs.PathsVisitor.{marked, unmarked, VisitTypeSingle, VisitExprSingle, VisitModDeclSingle, PathsVisitor}
 use Rattle.factor_paths.specs.Apply.{mappings, pathsToRemove, imports}
 use Rattle.factor_paths.proofs.Maps.{namesOf, Apart}
 use Rattle.factor_paths.proofs.Visits.{declaration-keeps, mappings-good}
-use Rattle.factor_paths.proofs.Final.{chosen, final-chosen, get-final}
+use Rattle.factor_paths.proofs.Final.{get-final}
 use Rattle.factor_paths.proofs.Modules.{ModFields}
 use Rattle.size.proofs.Sizes.{size, sizeAll}
 use Rattle.size.proofs.Walked.{pathed, chargeAll, by-path}
@@ -49,7 +52,8 @@ module _ (S : Path) where
   bases-last n p (q ∷ ps) = let i = bases-last n p ps in omega arith
 
   -- setting a name's paths adds at most as much as they add to what the name had
-  set-size : (k : Name) (ps : List Path) (x : ℕ) (es : Provenance) → basesSize k ps ≤ whether (get upstream k es) 0 (basesSize k) + x → usesSize (set upstream k ps es) ≤ usesSize es + x
+  set-size : (k : Name) (ps : List Path) (x : ℕ) (es : Provenance) → basesSize k ps ≤ whether (get upstream k es) 0 (basesSize k) + x
+      → usesSize (set upstream k ps es) ≤ usesSize es + x
   unfolding basesSize usesSize get set
   set-size k ps x [] h = omega arith
   set-size k ps x (e ∷ es) h =
@@ -76,7 +80,8 @@ module _ (S : Path) where
   selected-adds j path name short k c i acc m h =
       by-test (eqb k j)
       (λ e. rw (path k e)
-      (by-path (λ c. mappingSize (whether (selected j (node k c)) acc (λ s. cond (equal upstream (s .base) Self) acc (Add upstream acc (name s) (s .base)))) ≤ m + (19 + sizeAll c)) c (i (path k e))
+      (by-path (λ c. mappingSize (whether (selected j (node k c)) acc (λ s. cond (equal upstream (s .base) Self) acc (Add upstream acc (name s) (s .base)))) ≤ m
+      + (19 + sizeAll c)) c (i (path k e))
       (λ b n same. let s : Selected = record { base = b; name = n } in
       let a = add-size (name s) b acc in
       let u = use-most (name s) b in
@@ -103,7 +108,8 @@ module _ (S : Path) where
   unfolding useSize
   declaration-adds d acc m h =
       let i = declaration-keeps upstream (λ o a. mappingSize a ≤ m) S
-      (λ o a k l. let j : mappingSize (Add upstream a k S) ≤ mappingSize a + 0 = rw (paths upstream-names .reflexive S) at (add-size k S a) in omega arith) acc acc d h in
+      (λ o a k l. let j : mappingSize (Add upstream a k S) ≤ mappingSize a + 0 = rw (paths upstream-names .reflexive S) at (add-size k S a) in omega arith) acc
+      acc d h in
       omega arith
 
   -- a module's mapping is no larger than what its paths are charged
@@ -113,22 +119,8 @@ module _ (S : Path) where
       let i = VisitMod-adds mappingSize (PathsVisitor upstream) type-single expr-single S declaration-adds m h noMapping 0 (omega arith) in
       omega arith
 
-  -- a path that is chosen is among a name's paths, if it is not SelfPath
-  chosen-among : (ps : List Path) (q : Path) → chosen upstream S ps ≡ some q → equal upstream q S ≡ false → _among_ upstream q ps ≡ true
-  unfolding chosen _among_
-  chosen-among [] q h n = cc
-  chosen-among (p ∷ []) q h n = rw (Option·some-injective _ _ h, or-false (equal upstream q q)) (paths upstream-names .reflexive q)
-  chosen-among (p ∷ r ∷ ps) q h n =
-      let qs : List Path = p ∷ r ∷ ps in
-      by-test (_among_ upstream S qs)
-      (λ t. let i = rw (ne-eqb (suc (suc (length ps))) 1 (omega arith), t) at h in
-      absurd (false≢true (sym n ∙ rw (← Option·some-injective _ _ i) (paths upstream-names .reflexive S))))
-      (λ t. by-test (_among_ upstream «dafny_runtime» qs)
-      (λ u. let i = rw (ne-eqb (suc (suc (length ps))) 1 (omega arith), t, u) at h in rw (← Option·some-injective _ _ i) u)
-      (λ u. let i = rw (ne-eqb (suc (suc (length ps))) 1 (omega arith), t, u) at h in cc))
-
   among-size : (n : Name) (q : Path) (ps : List Path) → _among_ upstream q ps ≡ true → equal upstream q S ≡ false → 19 + size (MSel q n) ≤ basesSize n ps
-  unfolding basesSize useSize _among_
+  unfolding basesSize useSize isAmong
   among-size n q [] h s = absurd (false≢true h)
   among-size n q (p ∷ ps) h s =
       by-test (equal upstream q p)
@@ -152,12 +144,11 @@ module _ (S : Path) where
       let n = e .name in
       let others = ToFinalReplacement upstream es S in
       let rest = uses-size es (a .1) in
-      rw (final-chosen upstream S e others)
-      (by-option (chosen upstream S (e .held))
+      by-option (upstream .chosenBase S (e .held))
       (λ c. rw (c, get-final upstream upstream-names n es S (a .1), a .0) (omega arith))
       (λ q c. rw (c, upstream-names .reflexive n, uses-apart n q others es (a .0))
       (by-test (equal upstream q S) (λ s. rw s (omega arith))
-      (λ s. let i = among-size n q (e .held) (chosen-among (e .held) q c s) s in rw s (omega arith)))))
+      (λ s. let i = among-size n q (e .held) (upstream-chooses .inside S (e .held) q c) s in rw s (omega arith))))
 
 -- the uses put ahead of a module are no larger than what its paths are charged
 pub imports-size : (m : Record) (h : ModFields m) (S : Path) → sizeAll (imports upstream m S) ≤ chargeAll (h .body)

@@ -13,7 +13,8 @@ use Rattle.records.proofs.ByRow.{by-kinds, by-seq, seq-node, option-node}
 use Rattle.rast.specs.Path.{Path}
 use Rattle.rast.specs.Mod.{Mod·Fold}
 use Rattle.rast.specs.Fold.{Role, aType as roleType, anExpr as roleExpr, holds as roleHolds, other, role, Fold, FoldParts}
-use Rattle.rast.specs.Visitor.{RASTTopDownVisitor, VisitType, VisitTypeParams, VisitFields, VisitFn, VisitMember, VisitBody, VisitImplMapping, VisitUse, VisitTopFn, VisitTraitDecl, VisitStructMapping, VisitModMapping, VisitMod}
+use Rattle.rast.specs.Visitor.{RASTTopDownVisitor, VisitType, VisitTypeParams, VisitFields, VisitFn, VisitMember, VisitBody, VisitImplMapping, VisitUse}
+use Rattle.rast.specs.Visitor.{VisitTopFn, VisitTraitDecl, VisitStructMapping, VisitModMapping, VisitMod}
 use Rattle.rast.proofs.Tests.{by-test}
 use Rattle.factor_paths.proofs.Tidy.{termKind, terms-closed, PathIn, Paths, PathsAll, fits-paths}
 use Rattle.factor_paths.proofs.Wraps.{same-step, path-role}
@@ -46,7 +47,8 @@ module _ {T : Type 0} (μ : T → ℕ) where
 
     module _ (k : ℕ) (c : Records) (i : pathed k ≡ true → PathIn c) (parts : (b : Bool) → Adds (λ acc. FoldParts f ft b acc c) (chargeAll c)) where
       -- a record itself, then its parts
-      node-adds : (g : T → Record → T) → Single g → (b : Bool) → Adds (λ acc. FoldParts f ft b (g acc (node k c)) c) (cond (pathed k) (19 + sizeAll c) (chargeAll c))
+      node-adds : (g : T → Record → T) → Single g → (b : Bool)
+          → Adds (λ acc. FoldParts f ft b (g acc (node k c)) c) (cond (pathed k) (19 + sizeAll c) (chargeAll c))
       node-adds g single b acc m h =
           let own = single k c i acc m h in
           by-test (pathed k)
@@ -110,7 +112,8 @@ module _ {T : Type 0} (μ : T → ℕ) where
     unfolding VisitTypeParams rowOf nth charge
     typeParams-add r h =
         list-adds (one 0x7F) _
-        (by-kinds (Charged (λ acc t. FoldLeft VT acc (children (field 1 t)))) 0x7F 0 (lit≤ tt) (λ n hn ts hts acc m h. let i = types-add ts hts acc m h in omega arith))
+        (by-kinds (Charged (λ acc t. FoldLeft VT acc (children (field 1 t)))) 0x7F 0 (lit≤ tt)
+        (λ n hn ts hts acc m h. let i = types-add ts hts acc m h in omega arith))
         r (seq-node r (one 0x7F) h)
 
     formal-adds : (r : Record) → Fits r (one 0x7E) → Charged (λ acc r. VT acc (field 1 r)) r
@@ -159,18 +162,22 @@ module _ {T : Type 0} (μ : T → ℕ) where
     unfolding VisitImplMapping rowOf nth charge
     impl-adds =
         by-kinds (Charged (VisitImplMapping this)) 0x79 1 (lit≤ tt)
-        ((λ ps hps t ht u hu ms hms acc m h. let i = body-adds ms hms _ _ (type-adds u hu _ _ (type-adds t ht _ _ (typeParams-add ps hps acc m h))) in omega arith)
+        ((λ ps hps t ht u hu ms hms acc m h. let i = body-adds ms hms _ _ (type-adds u hu _ _ (type-adds t ht _ _ (typeParams-add ps hps acc m h))) in omega
+        arith)
         ⨾ (λ ps hps t ht ms hms acc m h. let i = body-adds ms hms _ _ (type-adds t ht acc m h) in omega arith))
 
     trait-adds : (r : Record) → Fits r (one 0x7B) → Charged (VisitTraitDecl this) r
     unfolding VisitTraitDecl VisitType rowOf nth charge
     trait-adds =
         by-kinds (Charged (VisitTraitDecl this)) 0x7B 0 (lit≤ tt)
-        (λ d hd a ha ps hps t ht ts hts ms hms acc m h. let i = body-adds ms hms _ _ (types-add ts hts _ _ (type-adds t ht _ _ (typeParams-add ps hps acc m h))) in omega arith)
+        (λ d hd a ha ps hps t ht ts hts ms hms acc m h. let i = body-adds ms hms _ _
+        (types-add ts hts _ _ (type-adds t ht _ _ (typeParams-add ps hps acc m h))) in omega arith)
 
     struct-adds : (r : Record) → Fits r (one 0x70) → Charged (VisitStructMapping this) r
     unfolding VisitStructMapping rowOf nth charge
-    struct-adds = by-kinds (Charged (VisitStructMapping this)) 0x70 0 (lit≤ tt) (λ d hd a ha n hn ps hps fs hfs acc m h. let i = typeParams-add ps hps acc m h in omega arith)
+    struct-adds =
+        by-kinds (Charged (VisitStructMapping this)) 0x70 0 (lit≤ tt) (λ d hd a ha n hn ps hps fs hfs acc m h. let i = typeParams-add ps hps acc m h in omega
+        arith)
 
     synonym-adds : (r : Record) → Fits r (one 0x71) → Charged (λ acc r. VT (VisitTypeParams this acc (field 3 r)) (field 4 r)) r
     unfolding rowOf nth charge
@@ -186,13 +193,18 @@ module _ {T : Type 0} (μ : T → ℕ) where
 
     case-adds : (r : Record) → Fits r (one 0x74) → Charged (λ acc r. VisitFields this acc (field 2 r)) r
     unfolding rowOf nth charge
-    case-adds = by-kinds (Charged (λ acc r. VisitFields this acc (field 2 r))) 0x74 0 (lit≤ tt) (λ d hd n hn fs hfs acc m h. let i = fields-add fs hfs acc m h in omega arith)
+    case-adds =
+        by-kinds (Charged (λ acc r. VisitFields this acc (field 2 r))) 0x74 0 (lit≤ tt)
+        (λ d hd n hn fs hfs acc m h. let i = fields-add fs hfs acc m h in omega arith)
 
-    enum-adds : (r : Record) → Fits r (one 0x73) → Charged (λ acc r. FoldLeft (λ acc c. VisitFields this acc (field 2 c)) (VisitTypeParams this acc (field 3 r)) (children (field 4 r))) r
+    enum-adds : (r : Record) → Fits r (one 0x73)
+        → Charged (λ acc r. FoldLeft (λ acc c. VisitFields this acc (field 2 c)) (VisitTypeParams this acc (field 3 r)) (children (field 4 r))) r
     unfolding rowOf nth charge
     enum-adds =
-        by-kinds (Charged (λ acc r. FoldLeft (λ acc c. VisitFields this acc (field 2 c)) (VisitTypeParams this acc (field 3 r)) (children (field 4 r)))) 0x73 0 (lit≤ tt)
-        (λ d hd a ha n hn ps hps cs hcs acc m h. let i = list-adds (one 0x74) _ case-adds cs (seq-node cs (one 0x74) hcs) _ _ (typeParams-add ps hps acc m h) in omega arith)
+        by-kinds (Charged (λ acc r. FoldLeft (λ acc c. VisitFields this acc (field 2 c)) (VisitTypeParams this acc (field 3 r)) (children (field 4 r)))) 0x73 0
+        (lit≤ tt)
+        (λ d hd a ha n hn ps hps cs hcs acc m h. let i = list-adds (one 0x74) _ case-adds cs (seq-node cs (one 0x74) hcs) _ _ (typeParams-add ps hps acc m h) in
+        omega arith)
 
     topFn-adds : (r : Record) → Fits r (one 0x7C) → Charged (VisitTopFn this) r
     unfolding VisitTopFn rowOf nth charge
@@ -216,4 +228,6 @@ module _ {T : Type 0} (μ : T → ℕ) where
       -- the visit of a module adds at most what the paths in its declarations are charged, those of modules in it aside
       pub VisitMod-adds : (m : Record) (h : ModFields m) → Adds (λ acc. VisitMod this acc m S) (chargeAll (h .body))
       unfolding VisitMod Mod·Fold nth
-      VisitMod-adds m h = subst (λ m. Adds (λ acc. VisitMod this acc m S) (chargeAll (h .body))) (sym (h .is-mod)) (fold-adds (kinds 0x62 0x6A) _ decl-adds (h .body) (h .body-fits))
+      VisitMod-adds m h =
+          subst (λ m. Adds (λ acc. VisitMod this acc m S) (chargeAll (h .body))) (sym (h .is-mod))
+          (fold-adds (kinds 0x62 0x6A) _ decl-adds (h .body) (h .body-fits))

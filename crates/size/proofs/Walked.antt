@@ -115,7 +115,8 @@ most true w b n h = omega arith
 most false w b n h = h
 
 -- what holds of a path that selects a name, and of any other, holds of what a path type or a path expression holds
-pub by-path : (P : Records → Type 0) (c : Records) → PathIn c → ((b : Path) (n : Name) → c ≡ MSel b n ▸ nil → P (MSel b n ▸ nil)) → ((p : Path) → is 0x13 p ≡ false → P (p ▸ nil)) → P c
+pub by-path : (P : Records → Type 0) (c : Records) → PathIn c → ((b : Path) (n : Name) → c ≡ MSel b n ▸ nil → P (MSel b n ▸ nil))
+    → ((p : Path) → is 0x13 p ≡ false → P (p ▸ nil)) → P c
 by-path P c i f g =
     by-test (is 0x13 (i .held))
     (λ e. let same = i .only ∙ ap (λ p. p ▸ nil) (i .spelled e) in subst P (sym same) (f _ _ same))
@@ -148,7 +149,8 @@ module _ (op : Operation) (rep : FinalReplacement) where
   selected-expr b n =
       let s = size-six b in
       let named : Bounded (MSel b n ▸ nil) (Identifier n) = omega arith in
-      one-of (Bounded (MSel b n ▸ nil)) (replaces op rep n b) named (one-of (Bounded (MSel b n ▸ nil)) (marked n && replaces op rep (unmarked n) b) named (omega arith))
+      one-of (Bounded (MSel b n ▸ nil)) (replaces op rep n b) named (one-of (Bounded (MSel b n ▸ nil)) (marked n && replaces op rep (unmarked n) b) named
+      (omega arith))
 
   -- what the walk makes of a record, and what its paths are charged
   abbrev Fine : Bool → ℕ → Record → Type 0
@@ -200,7 +202,8 @@ module _ (op : Operation) (rep : FinalReplacement) where
     walk-size (leaf k b) a w p f h = omega arith
     walk-size (node k c) a w p f h = node-fine a w k c (λ v h. walkAll-size c a v (p .1) (f .1) h) (λ e. walkFn-size c 0 (p .1) (f .1) (f .0 e)) h (p .0)
 
-    walkAll-size : (c : Records) (a : Bool) (w : ℕ) → PathsAll c → FnsAll c → Space a w (deepAll c) → sizeAll (walkAll op rep a w c) + chargeAll c ≤ 42 * sizeAll c
+    walkAll-size : (c : Records) (a : Bool) (w : ℕ) → PathsAll c → FnsAll c → Space a w (deepAll c)
+        → sizeAll (walkAll op rep a w c) + chargeAll c ≤ 42 * sizeAll c
     walkAll-size nil a w p f h = omega arith
     walkAll-size (r ▸ c) a w p f h =
         let i = walk-size r a w (p .0) (f .0) (space-room a w r (space-first a w (deep r) (deepAll c) h)) in

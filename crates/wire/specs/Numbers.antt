@@ -1,7 +1,8 @@
 -- Numbers in bytes, the lowest byte first (01, Leaf 1). Assumes nothing: these are definitions.
 use mathlib.Core.List.{List, [], _∷_}
 use mathlib.Core.Bool.{Bool, true, false, _&&_}
-use Prim.Native.Nat.{ℕ, zero, suc, _+_, _*_, _/_, _%_, _<_}
+use Prim.Native.Nat.{ℕ, zero, suc, _+_, _*_, _-_, _/_, _%_, _<_}
+use lib.ListN.{take, drop}
 use lib.Dec.{eqb}
 
 abbrev pub Bytes : Type 0
@@ -11,6 +12,10 @@ Bytes = List ℕ
 unfoldable pub AreBytes : Bytes → Type 0
 AreBytes [] = Unit {0}
 AreBytes (b ∷ s) = (b < 256) × AreBytes s
+
+-- the bytes from one place to another
+abbrev pub between : Bytes → ℕ → ℕ → Bytes
+between s from to = take (to - from) (drop from s)
 
 -- the lowest w bytes of n
 unfoldable pub le : ℕ → ℕ → Bytes

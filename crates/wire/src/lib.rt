@@ -1,6 +1,6 @@
 // Bytes as numbers, comparing bytes, and a part of a slice.
 ghost use mathlib.Core.Path.{_≡_};
-ghost use Prim.Native.Nat.{_<_};
+ghost use Prim.Native.Nat.{_<_, _^_};
 ghost use lib.ListN.{take, drop};
 ghost use Rattle.wire.specs.Numbers.{sameBytes};
 
@@ -41,4 +41,11 @@ pub fn part(s: &[u8], from: usize, len: usize) -> &[u8]
     }
     let to = from + len;
     &s[from..to]
+}
+
+// A word of 32 bits as a number.
+pub fn word(w: u32) -> usize
+    ensures { λ r. ⌜ (r ≡ w) × (r < 2 ^ 32) ⌝ }
+{
+    w as usize
 }

@@ -27,11 +27,14 @@ cleared-next v w i c h =
     record {
       long = length-set w i 0 ∙ c .long;
       inside = omega arith;
-      is = ap (λ (u : List ℕ). set u i 0) (c .is) ∙ set-next i v (omega arith) ∙ ap (λ (n : ℕ). replicate n 0 ++ drop n v) (let e : suc i ≡ i + 1 = omega arith in e);
+      is =
+          ap (λ (u : List ℕ). set u i 0) (c .is) ∙ set-next i v (omega arith)
+          ∙ ap (λ (n : ℕ). replicate n 0 ++ drop n v) (let e : suc i ≡ i + 1 = omega arith in e);
     }
 
 pub cleared-all : (v w : List ℕ) (i : ℕ) → Cleared v w i → length w ≤ i → w ≡ replicate (length v) 0
 cleared-all v w i c h =
     let l = c .long in
     let k = c .inside in
-    c .is ∙ ap (λ (u : List ℕ). replicate i 0 ++ u) (drop-of-length-le v {i = i} (omega arith)) ∙ append-nil (replicate i 0) ∙ ap (λ (n : ℕ). replicate n 0) (let e : i ≡ length v = omega arith in e)
+    c .is ∙ ap (λ (u : List ℕ). replicate i 0 ++ u) (drop-of-length-le v {i = i} (omega arith)) ∙ append-nil (replicate i 0)
+    ∙ ap (λ (n : ℕ). replicate n 0) (let e : i ≡ length v = omega arith in e)

@@ -6,11 +6,9 @@ use Rattle.collecting.proofs.stands.Tie as tie
 use Rattle.collecting.proofs.stands.Reads as reads
 use Rattle.collecting.proofs.stands.Lts as lts
 
--- src/lib.rt:43:9
 returns : tie.Need-returns
 returns c = stands-low _ _ _ (c .if1 .taken)
 
--- src/lib.rt:39:1
 returns-2 : tie.Need-returns-2
 returns-2 c = stands-high (c .before .args .from) (c .before .args .to) (c .before .args .k) (omega (arith, c .if1 .left))
 

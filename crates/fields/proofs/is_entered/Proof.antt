@@ -28,11 +28,16 @@ returns-5 c = none-of (c .before .before .before .before .before .args .k) (c .b
 
 -- src/lib.rt:33:9
 returns-6 : tie.Need-returns-6
-returns-6 c = none-of (c .before .before .before .before .before .before .args .k) (c .before .before .before .before .before .before .args .i) 0x62 (λ i. refl) (c .if6 .taken)
+returns-6 c =
+    none-of (c .before .before .before .before .before .before .args .k) (c .before .before .before .before .before .before .args .i) 0x62 (λ i. refl)
+    (c .if6 .taken)
 
 -- src/lib.rt:14:1
 returns-7 : tie.Need-returns-7
-returns-7 c = no-use (c .before .before .before .before .before .before .args .k) (c .before .before .before .before .before .before .args .i) (c .before .before .before .before .before .if1 .left) (c .before .before .before .before .if2 .left) (c .before .before .before .if3 .left) (c .before .before .if4 .left) (c .before .if5 .left) (c .if6 .left)
+returns-7 c =
+    no-use (c .before .before .before .before .before .before .args .k) (c .before .before .before .before .before .before .args .i)
+    (c .before .before .before .before .before .if1 .left) (c .before .before .before .before .if2 .left) (c .before .before .before .if3 .left)
+    (c .before .before .if4 .left) (c .before .if5 .left) (c .if6 .left)
 
 pub is-entered-spec : {M : Type 1} → statement M
 is-entered-spec =

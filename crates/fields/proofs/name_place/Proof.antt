@@ -9,23 +9,20 @@ use Rattle.fields.proofs.name_place.Lts as lts
 use Rattle.fields.proofs.name_at.Reads as name-at-reads
 use Rattle.wire.proofs.part.Reads as part-reads
 
--- src/lib.rt:254:29
 part-requires : tie.Need-part-requires
 part-requires c κs = search needs
 
--- src/lib.rt:254:21
 name-at-requires : tie.Need-name-at-requires
 name-at-requires c κs = search needs
 
--- src/lib.rt:254:16
 add-result : tie.Need-add-result
 add-result c = search needs
 
--- src/lib.rt:254:9
 returns : tie.Need-returns
-returns c = place-in (c .before .before .before .before .args .card .now) (c .before .before .before .before .args .at) _ _ (c .before .before .if1 .taken) (c .before .part .ensures) (c .name-at .ensures)
+returns c =
+    place-in (c .before .before .before .before .args .card .now) (c .before .before .before .before .args .at) _ _ (c .before .before .if1 .taken)
+    (c .before .part .ensures) (c .name-at .ensures)
 
--- src/lib.rt:250:1
 returns-2 : tie.Need-returns-2
 returns-2 c = place-past (c .before .before .args .card .now) (c .before .before .args .at) (omega (arith, c .if1 .left))
 

@@ -32,7 +32,12 @@ add-o c = omega (arith, c .record-length .ensures .1)
 
 -- src/lib.rt:46:9
 add-o-2 : tie.Need-add-o-2 Inv-loop μ-loop
-add-o-2 c = omega (arith, passed-fits _ _ _ _ _ _ (c .before .before .before .loop .inv) (c .before .before .loop-test .taken) (c .before .part .ensures) (c .record-length .ensures) (c .before .before .before .before .before .pre))
+add-o-2 c =
+    omega (
+      arith,
+      passed-fits _ _ _ _ _ _ (c .before .before .before .loop .inv) (c .before .before .loop-test .taken) (c .before .part .ensures)
+          (c .record-length .ensures) (c .before .before .before .before .before .pre),
+    )
 
 -- src/lib.rt:47:9
 sub-j : tie.Need-sub-j Inv-loop μ-loop
@@ -44,7 +49,8 @@ loop-less c = omega (arith, c .before .before .loop-test .taken)
 
 -- src/lib.rt:45:5
 loop-again : tie.Need-loop-again Inv-loop μ-loop
-loop-again c = passed-next _ _ _ _ _ _ (c .before .before .before .loop .inv) (c .before .before .loop-test .taken) (c .before .part .ensures) (c .record-length .ensures)
+loop-again c =
+    passed-next _ _ _ _ _ _ (c .before .before .before .loop .inv) (c .before .before .loop-test .taken) (c .before .part .ensures) (c .record-length .ensures)
 
 -- src/lib.rt:39:1
 returns : tie.Need-returns Inv-loop μ-loop

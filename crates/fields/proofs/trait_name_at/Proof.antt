@@ -23,11 +23,19 @@ add-result c = search needs
 
 -- src/lib.rt:59:9
 returns : tie.Need-returns
-returns c = (trait-plain _ _ _ _ (c .before .before .part .ensures) (c .before .record-kind .ensures) (c .if1 .taken), omega (arith, c .before .before .before .before .pre))
+returns c = (
+  trait-plain _ _ _ _ (c .before .before .part .ensures) (c .before .record-kind .ensures) (c .if1 .taken),
+  omega
+      (arith, c .before .before .before .before .pre),
+)
 
 -- src/lib.rt:62:9
 returns-2 : tie.Need-returns-2
-returns-2 c = (trait-other _ _ _ _ (c .before .before .before .part .ensures) (c .before .before .record-kind .ensures) (c .before .if1 .left) (c .if2 .taken), omega arith)
+returns-2 c = (
+  trait-other _ _ _ _ (c .before .before .before .part .ensures) (c .before .before .record-kind .ensures) (c .before .if1 .left) (c .if2 .taken),
+  omega
+      arith,
+)
 
 -- src/lib.rt:64:28
 part-requires-2 : tie.Need-part-requires-2
@@ -43,11 +51,22 @@ add-result-2 c = search needs
 
 -- src/lib.rt:65:9
 returns-3 : tie.Need-returns-3
-returns-3 c = (trait-applied _ _ _ _ (c .before .before .before .before .before .before .part .ensures) (c .before .before .before .before .before .record-kind .ensures) (c .before .before .before .before .if1 .left) _ _ (c .before .before .before .if2 .left) (c .before .before .part2 .ensures) (c .before .record-kind2 .ensures) (c .if3 .taken), omega (arith, c .before .before .before .before .before .before .before .before .pre))
+returns-3 c = (
+  trait-applied _ _ _ _ (c .before .before .before .before .before .before .part .ensures) (c .before .before .before .before .before .record-kind .ensures)
+      (c .before .before .before .before .if1 .left) _ _ (c .before .before .before .if2 .left) (c .before .before .part2 .ensures)
+      (c .before .record-kind2 .ensures) (c .if3 .taken),
+  omega (arith, c .before .before .before .before .before .before .before .before .pre),
+)
 
 -- src/lib.rt:52:1
 returns-4 : tie.Need-returns-4
-returns-4 c = (trait-applied-other _ _ _ _ (c .before .before .before .before .before .before .part .ensures) (c .before .before .before .before .before .record-kind .ensures) (c .before .before .before .before .if1 .left) _ _ (c .before .before .before .if2 .left) (c .before .before .part2 .ensures) (c .before .record-kind2 .ensures) (c .if3 .left), omega arith)
+returns-4 c = (
+  trait-applied-other _ _ _ _ (c .before .before .before .before .before .before .part .ensures)
+      (c .before .before .before .before .before .record-kind .ensures) (c .before .before .before .before .if1 .left) _ _
+      (c .before .before .before .if2 .left)
+      (c .before .before .part2 .ensures) (c .before .record-kind2 .ensures) (c .if3 .left),
+  omega arith,
+)
 
 pub trait-name-at-spec : {M : Type 1} → statement M
 trait-name-at-spec =

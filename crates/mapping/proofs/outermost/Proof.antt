@@ -1,70 +1,92 @@
 -- `mapping::outermost` meets its contract, by the laws of Answered. Assumes nothing.
-use native.Mathlib.Omega.{arith}
-use Rattle.mapping.proofs.Answered.{refused, enough, lent, full, some}
 use borrow.Author.Needs.{needs}
+use Rattle.mapping.proofs.Answered.{refused, enough, lent, words-long, full, some}
 use Rattle.mapping.proofs.outermost.Statement.{statement}
 use Rattle.mapping.proofs.outermost.Tie as tie
 use Rattle.mapping.proofs.outermost.Reads as reads
 use Rattle.mapping.proofs.outermost.Lts as lts
 use Rattle.admission.proofs.admit.Reads as admit-reads
-use Rattle.collecting.proofs.collect.Reads as collect-reads
+use Rattle.collecting.proofs.collect_module.Reads as collect-module-reads
 use Rattle.fields.proofs.name_place.Reads as name-place-reads
 use Rattle.work.proofs.clear.Reads as clear-reads
 
--- src/lib.rt:20:9
 admit-requires : tie.Need-admit-requires
 admit-requires c κs = search needs
 
 enum-told : tie.Need-enum-told
 enum-told c = search needs
 
--- src/lib.rt:23:26
 enum-known-v : tie.Need-enum-known-v
 enum-known-v c = search needs
 
--- src/lib.rt:24:13
 returns : tie.Need-returns
-returns c = refused (c .before .before .before .before .before .before .before .args .card .now) (c .before .before .before .before .before .before .before .args .root .now) (c .before .before .before .before .before .before .before .args .work .now) _ (c .before .before .before .admit .ensures) _ (c .before .v .given .1)
+returns c =
+    let args = c .before .before .before .before .before .before .before .args in
+    let admit = c .before .before .before .admit in
+    let v = c .before .v in
+    refused (args .card .now) (args .root .now) (args .work .now) _ (admit .ensures) _ (v .given .1)
 
--- src/lib.rt:27:18
 name-place-requires : tie.Need-name-place-requires
 name-place-requires c κs = search needs
 
--- src/lib.rt:28:52
-slice-aggregate-collect : tie.Need-slice-aggregate-collect
-slice-aggregate-collect c = search needs
+slice-aggregate-collect-module : tie.Need-slice-aggregate-collect-module
+slice-aggregate-collect-module c = search needs
 
--- src/lib.rt:28:60
-slice-relend-prefix-collect : tie.Need-slice-relend-prefix-collect
-slice-relend-prefix-collect c = enough (c .before .before .before .before .before .before .before .before .args .card .now) (c .before .before .before .before .before .before .before .before .args .root .now) (c .before .before .before .before .before .before .before .before .args .work .now) _ (c .before .before .before .before .admit .ensures) (c .before .before .enum-told .given .1)
+slice-relend-prefix-collect-module : tie.Need-slice-relend-prefix-collect-module
+slice-relend-prefix-collect-module c =
+    let args = c .before .before .before .before .before .before .before .before .args in
+    let admit = c .before .before .before .before .admit in
+    let enum-told = c .before .before .enum-told in
+    enough (args .card .now) (args .root .now) (args .work .now) _ (admit .ensures) (enum-told .given .1)
 
--- src/lib.rt:28:60
-slice-aggregate-collect-2 : tie.Need-slice-aggregate-collect-2
-slice-aggregate-collect-2 c = lent (c .before .before .before .before .before .before .before .before .before .args .card .now) (c .before .before .before .before .before .before .before .before .before .args .root .now) (c .before .before .before .before .before .before .before .before .before .args .work .now) _ (c .before .before .before .before .before .admit .ensures) (c .before .before .before .enum-told .given .1)
+slice-aggregate-collect-module-2 : tie.Need-slice-aggregate-collect-module-2
+slice-aggregate-collect-module-2 c =
+    let args = c .before .before .before .before .before .before .before .before .before .args in
+    let admit = c .before .before .before .before .before .admit in
+    let enum-told = c .before .before .before .enum-told in
+    lent (args .card .now) (args .root .now) (args .work .now) _ (admit .ensures) (enum-told .given .1)
 
--- src/lib.rt:28:9
-collect-requires : tie.Need-collect-requires
-collect-requires c κs = search needs
+collect-module-requires : tie.Need-collect-module-requires
+collect-module-requires c κs = search needs
 
--- src/lib.rt:30:9
 clear-requires : tie.Need-clear-requires
 clear-requires c κs = search needs
 
--- src/lib.rt:31:9
 same-length : tie.Need-same-length
 same-length c = search needs
 
--- src/lib.rt:31:9
 returns-2 : tie.Need-returns-2
-returns-2 c = full (c .before .before .before .before .before .before .before .before .before .before .before .before .before .before .before .before .before .args .card .now) (c .before .before .before .before .before .before .before .before .before .before .before .before .before .before .before .before .before .args .root .now) (c .before .before .before .before .before .before .before .before .before .before .before .before .before .before .before .before .before .args .work .now) _ (c .before .before .before .before .before .before .before .before .before .before .before .before .before .admit .ensures) (c .before .before .before .before .before .before .before .before .before .before .before .enum-told .given .1) (λ i. c .before .before .before .before .before .before .before .before .before .before .before .before .before .before .before .before .shared-slice-known .given i .fits) (λ i. c .before .before .before .before .before .before .before .before .before .before .before .before .before .before .before .shared-slice-known2 .given i .fits) _ (c .before .before .before .before .before .before .before .before .before .before .name-place .ensures) _ _ (c .before .before .before .before .before .before .before .collect .ensures) (c .before .before .before .before .if1 .taken) _ (c .before .before .clear .ensures)
+returns-2 c =
+    let back = c .before .before .before .before .before .before .before .before .before .before .before .before .before .before .before in
+    let args = back .before .before .args in
+    let admit = c .before .before .before .before .before .before .before .before .before .before .before .before .before .admit in
+    let enum-told = c .before .before .before .before .before .before .before .before .before .before .before .enum-told in
+    let shared-slice-known =
+    c .before .before .before .before .before .before .before .before .before .before .before .before .before .before .before .before .shared-slice-known in
+    let shared-slice-known2 =
+    c .before .before .before .before .before .before .before .before .before .before .before .before .before .before .before .shared-slice-known2 in
+    let name-place = c .before .before .before .before .before .before .before .before .before .before .name-place in
+    let collect-module = c .before .before .before .before .before .before .before .collect-module in
+    let if1 = c .before .before .before .before .if1 in
+    let clear = c .before .before .clear in
+    full (args .card .now) (args .root .now) (args .work .now) _ (admit .ensures) (enum-told .given .1) (λ i. shared-slice-known .given i .fits)
+    (λ i. shared-slice-known2 .given i .fits) _ (name-place .ensures) _ _ (collect-module .ensures) (if1 .taken) _ (clear .ensures)
 
--- src/lib.rt:17:1
 same-length-2 : tie.Need-same-length-2
 same-length-2 c = search needs
 
--- src/lib.rt:17:1
 returns-3 : tie.Need-returns-3
-returns-3 c = some (c .before .before .before .before .before .before .before .before .before .before .before .before .before .args .card .now) (c .before .before .before .before .before .before .before .before .before .before .before .before .before .args .root .now) (c .before .before .before .before .before .before .before .before .before .before .before .before .before .args .work .now) _ (c .before .before .before .before .before .before .before .before .before .admit .ensures) (c .before .before .before .before .before .before .before .enum-told .given .1) (λ i. c .before .before .before .before .before .before .before .before .before .before .before .before .shared-slice-known .given i .fits) (λ i. c .before .before .before .before .before .before .before .before .before .before .before .shared-slice-known2 .given i .fits) _ (c .before .before .before .before .before .before .name-place .ensures) _ _ (c .before .before .before .collect .ensures) (omega (arith, c .if1 .left))
+returns-3 c =
+    let args = c .before .before .before .before .before .before .before .before .before .before .before .before .before .args in
+    let admit = c .before .before .before .before .before .before .before .before .before .admit in
+    let enum-told = c .before .before .before .before .before .before .before .enum-told in
+    let shared-slice-known = c .before .before .before .before .before .before .before .before .before .before .before .before .shared-slice-known in
+    let shared-slice-known2 = c .before .before .before .before .before .before .before .before .before .before .before .shared-slice-known2 in
+    let name-place = c .before .before .before .before .before .before .name-place in
+    let collect-module = c .before .before .before .collect-module in
+    let if1 = c .if1 in
+    some (args .card .now) (args .root .now) (args .work .now) _ (admit .ensures) (enum-told .given .1) (λ i. shared-slice-known .given i .fits)
+    (λ i. shared-slice-known2 .given i .fits) _ (name-place .ensures) _ _ (collect-module .ensures) (if1 .left)
 
 pub outermost-spec : {M : Type 1} → statement M
 outermost-spec =
@@ -75,10 +97,10 @@ outermost-spec =
     enum-known-v
     returns
     name-place-requires
-    slice-aggregate-collect
-    slice-relend-prefix-collect
-    slice-aggregate-collect-2
-    collect-requires
+    slice-aggregate-collect-module
+    slice-relend-prefix-collect-module
+    slice-aggregate-collect-module-2
+    collect-module-requires
     clear-requires
     same-length
     returns-2

@@ -20,7 +20,9 @@ same-requires : tie.Need-same-requires
 same-requires c κs = search needs
 
 returns-2 : tie.Need-returns-2
-returns-2 c = runtime-not (c .before .before .before .before .before .before .args .path .now) (c .before .same .result) (omega (arith, c .before .before .before .before .if1 .left)) (c .before .same .ensures) (c .if2 .taken)
+returns-2 c =
+    runtime-not (c .before .before .before .before .before .before .args .path .now) (c .before .same .result)
+    (omega (arith, c .before .before .before .before .if1 .left)) (c .before .same .ensures) (c .if2 .taken)
 
 sub-same : tie.Need-sub-same
 sub-same c = search needs
@@ -38,7 +40,12 @@ same-requires-2 : tie.Need-same-requires-2
 same-requires-2 c κs = search needs
 
 returns-3 : tie.Need-returns-3
-returns-3 c = runtime-is (c .before .before .before .before .before .before .before .before .before .args .path .now) (c .before .before .before .before .same .result) (omega (arith, c .before .before .before .before .before .before .before .if1 .left)) (c .before .before .before .before .same .ensures) _ (c .before .before .before .if2 .left) (c .same2 .ensures)
+returns-3 c =
+    runtime-is (c .before .before .before .before .before .before .before .before .before .args .path .now) (c .before .before .before .before .same .result)
+    (omega (arith, c .before .before .before .before .before .before .before .if1 .left)) (c .before .before .before .before .same .ensures) _
+    (c .before .before .before .if2 .left) (c .same2 .ensures)
 
 pub is-runtime-spec : {M : Type 1} → statement M
-is-runtime-spec = tie.close (tie.spec returns slice-aggregate-same slice-aggregate-same-2 same-requires returns-2 sub-same part-same-start part-same-end slice-aggregate-same-3 same-requires-2 returns-3)
+is-runtime-spec =
+    tie.close (tie.spec returns slice-aggregate-same slice-aggregate-same-2 same-requires returns-2 sub-same part-same-start part-same-end
+    slice-aggregate-same-3 same-requires-2 returns-3)

@@ -12,7 +12,9 @@ returns : tie.Need-returns
 returns c = select-few (c .before .before .before .args .path .now) (c .before .before .before .args .name .now) (omega (arith, c .if1 .taken))
 
 returns-2 : tie.Need-returns-2
-returns-2 c = select-few (c .before .before .before .before .args .path .now) (c .before .before .before .before .args .name .now) (omega (arith, c .before .if1 .left, c .if2 .taken))
+returns-2 c =
+    select-few (c .before .before .before .before .args .path .now) (c .before .before .before .before .args .name .now)
+    (omega (arith, c .before .if1 .left, c .if2 .taken))
 
 sub-at : tie.Need-sub-at
 sub-at c = search needs
@@ -30,7 +32,10 @@ same-requires : tie.Need-same-requires
 same-requires c κs = search needs
 
 returns-3 : tie.Need-returns-3
-returns-3 c = select-other (c .before .before .before .before .before .before .before .args .path .now) (c .before .before .before .before .before .before .before .args .name .now) (omega (arith, c .before .before .before .before .if1 .left, c .before .before .before .if2 .left)) _ (c .before .same .ensures) (c .if3 .taken)
+returns-3 c =
+    select-other (c .before .before .before .before .before .before .before .args .path .now)
+    (c .before .before .before .before .before .before .before .args .name .now)
+    (omega (arith, c .before .before .before .before .if1 .left, c .before .before .before .if2 .left)) _ (c .before .same .ensures) (c .if3 .taken)
 
 sub-a : tie.Need-sub-a
 sub-a c = search needs
@@ -48,7 +53,9 @@ cast-t22 : tie.Need-cast-t22
 cast-t22 c = search needs
 
 slice-aggregate-same : tie.Need-slice-aggregate-same
-slice-aggregate-same c = sym (length-take-le 6 (c .before .before .before .before .before .before .before .before .args .path .now) (omega (arith, c .before .before .before .before .before .if1 .left)))
+slice-aggregate-same c =
+    sym (length-take-le 6 (c .before .before .before .before .before .before .before .before .args .path .now)
+    (omega (arith, c .before .before .before .before .before .if1 .left)))
 
 slice-aggregate-same-2 : tie.Need-slice-aggregate-same-2
 slice-aggregate-same-2 c = search needs
@@ -58,7 +65,11 @@ same-requires-2 c κs = search needs
 
 returns-4 : tie.Need-returns-4
 unfolding le
-returns-4 c = select-by-head (c .before .before .before .before .before .before .before .before .before .before .args .path .now) (c .before .before .before .before .before .before .before .before .before .before .args .name .now) (omega (arith, c .before .before .before .before .before .before .before .if1 .left, c .before .before .before .before .before .before .if2 .left)) _ (c .before .before .before .before .same .ensures) _ (c .before .before .before .if3 .left) (c .same2 .ensures)
+returns-4 c =
+    select-by-head (c .before .before .before .before .before .before .before .before .before .before .args .path .now)
+    (c .before .before .before .before .before .before .before .before .before .before .args .name .now)
+    (omega (arith, c .before .before .before .before .before .before .before .if1 .left, c .before .before .before .before .before .before .if2 .left)) _
+    (c .before .before .before .before .same .ensures) _ (c .before .before .before .if3 .left) (c .same2 .ensures)
 
 pub selects-spec : {M : Type 1} → statement M
 selects-spec =

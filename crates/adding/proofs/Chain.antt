@@ -1,0 +1,106 @@
+-- THE CHAIN: in a table whose chains are whole, seeking finds the newest pair that a test holds of. Assumes nothing.
+use mathlib.Core.Path.{_≡_, refl, sym, ap, _∙_}
+use mathlib.Core.List.{List}
+use mathlib.Core.Bool.{Bool, true, false, cond, and-eq-true-iff, true≢false}
+use Prim.Native.Nat.{ℕ, zero, suc, _+_, _-_, _<_, _≤_}
+use native.Mathlib.Omega.{arith}
+use lib.Dec.{eqb, ltb}
+use borrow.Author.Tests.{eqb-true, eqb-false, eq-eqb, ne-eqb, le-ltb}
+use Rattle.wire.specs.Numbers.{Bytes}
+use Rattle.rast.proofs.Tests.{by-test}
+use Rattle.operation.specs.Operations.{operationOf}
+use Rattle.prefix.specs.Prefix.{Scope}
+use Rattle.comparing.specs.Compares.{hash}
+use Rattle.comparing.proofs.Operations.{hash-name}
+use Rattle.chains.specs.declared.Want.{Want}
+use Rattle.chains.specs.Chains.{room, nameAt, bucketOf, headOf, nextOf, isWanted, seekFrom, seek}
+use Rattle.chains.proofs.Tests.{seek-enough}
+use Rattle.adding.proofs.Tests.{bucket-inside}
+use Rattle.adding.specs.Holds.{latest, bucketAt, isIn, Chained}
+
+-- the newest is one of them, or none
+pub latest-most : (f : ℕ → Bool) (n : ℕ) → latest f n ≤ n
+unfolding latest
+latest-most f zero = omega arith
+latest-most f (suc n) = by-test (f n) (λ t. rw t (omega arith)) (λ t. rw t (let l = latest-most f n in omega arith))
+
+-- the test holds of it
+pub latest-true : (f : ℕ → Bool) (n : ℕ) → 0 < latest f n → f (latest f n - 1) ≡ true
+unfolding latest
+latest-true f zero h = absurd (omega arith)
+latest-true f (suc n) h = by-test (f n) (λ t. rw t (let e : suc n - 1 ≡ n = omega arith in rw e t)) (λ t. rw t (latest-true f n (rw t at h)))
+
+-- tests that say the same of each have the same newest
+pub latest-same : (f g : ℕ → Bool) (n : ℕ) → ((i : ℕ) → i < n → f i ≡ g i) → latest f n ≡ latest g n
+unfolding latest
+latest-same f g zero h = refl
+latest-same f g (suc n) h = rw (h n (omega arith), latest-same f g n (λ i l. h i (omega arith)))
+
+-- one that holds of none has none
+pub latest-none : (f : ℕ → Bool) (n : ℕ) → latest f n ≡ 0 → (i : ℕ) → i < n → f i ≡ false
+unfolding latest
+latest-none f zero e i l = absurd (omega arith)
+latest-none f (suc n) e i l =
+    by-test (f n) (λ t. absurd (let z = rw t at e in omega arith))
+    (λ t. by-test (eqb i n) (λ q. rw (eqb-true i n q) t)
+    (λ q. latest-none f n (rw t at e) i (let d = eqb-false i n q in omega (arith, d))))
+
+module _ (s : Scope) (words : List ℕ) (n : ℕ) (c : Chained s words n) (f : ℕ → Bool) (b : ℕ) (inside : (i : ℕ) → f i ≡ true → bucketAt s words i ≡ b) where
+  -- from the newest of the first m pairs that is in the bucket on
+  pub chain-latest : (m fuel : ℕ) → m ≤ n → latest (isIn s words b) m ≤ fuel → seekFrom f words fuel (latest (isIn s words b) m) ≡ latest f m
+  unfolding latest seekFrom
+  chain-latest zero zero h g = refl
+  chain-latest zero (suc fuel) h g = refl
+  chain-latest (suc m) fuel h g =
+      by-test (eqb (bucketAt s words m) b)
+      (λ t. rw t (in-bucket m fuel h (rw t at g) (eqb-true (bucketAt s words m) b t) (λ k. chain-latest m k (omega arith))))
+      (λ t. rw (t, not-in m t) (chain-latest m fuel (omega arith) (rw t at g)))
+    where
+      not-in : (m : ℕ) → eqb (bucketAt s words m) b ≡ false → f m ≡ false
+      not-in m t =
+          by-test (f m) (λ u. absurd (let z : _≡_ {A = Bool} true false = sym (eq-eqb (bucketAt s words m) b (inside m u)) ∙ t in true≢false z)) (λ u. u)
+
+      in-bucket : (m fuel : ℕ) → suc m ≤ n → suc m ≤ fuel → bucketAt s words m ≡ b
+          → ((k : ℕ) → latest (isIn s words b) m ≤ k → seekFrom f words k (latest (isIn s words b) m) ≡ latest f m)
+          → seekFrom f words fuel (suc m) ≡ cond (f m) (suc m) (latest f m)
+      in-bucket m zero h g e go = absurd (omega arith)
+      in-bucket m (suc fuel) h g e go =
+          let l : nextOf words (suc m) ≡ latest (isIn s words b) m = c .links m (omega arith) ∙ ap (λ (x : ℕ). latest (isIn s words x) m) e in
+          let k : suc m - 1 ≡ m = omega arith in
+          let most = latest-most (isIn s words b) m in
+          rw (eqb-zero m, k, l, go fuel (omega arith))
+        where
+          eqb-zero : (m : ℕ) → eqb (suc m) 0 ≡ false
+          eqb-zero m = ne-eqb (suc m) 0 (λ z. omega arith)
+
+-- a pair that has a name is in the name's bucket
+pub named-bucket : (s : Scope) (words : List ℕ) (name : Bytes) (want : Want) (i : ℕ) → isWanted s words name want i ≡ true
+    → bucketAt s words i ≡ bucketOf (s .op) words name
+unfolding isWanted bucketOf
+named-bucket s words name want i h =
+    let k = and-eq-true-iff _ _ .0 h in
+    rw (hash-name (s .op) (nameAt (s .card) words i) name (k .0))
+
+module _ (s : Scope) (words : List ℕ) (n : ℕ) (r : n ≤ room words) (c : Chained s words n) (name : Bytes) (want : Want) where
+  abbrev Test : ℕ → Bool
+  Test = isWanted s words name want
+
+  -- THE LAW: from the head of a name's bucket, the newest of all
+  pub seek-head : 0 < room words → seek Test words (headOf words (bucketOf (s .op) words name)) ≡ latest Test n
+  unfolding seek
+  seek-head o =
+      let b = bucketOf (s .op) words name in
+      let e : headOf words b ≡ latest (isIn s words b) n = c .heads b (bucket-inside (s .op) words name o) in
+      let m = latest-most (isIn s words b) n in
+      rw (e, le-ltb (room words) (latest (isIn s words b) n) (omega arith))
+      (chain-latest s words n c Test b (named-bucket s words name want) n (latest (isIn s words b) n) (omega arith) (omega arith))
+
+  -- and after a pair that has the name, the newest of those ahead of it
+  pub seek-after : (i : ℕ) → i < n → bucketAt s words i ≡ bucketOf (s .op) words name → seek Test words (nextOf words (suc i)) ≡ latest Test i
+  unfolding seek
+  seek-after i l e =
+      let b = bucketOf (s .op) words name in
+      let f : nextOf words (suc i) ≡ latest (isIn s words b) i = c .links i l ∙ ap (λ (x : ℕ). latest (isIn s words x) i) e in
+      let m = latest-most (isIn s words b) i in
+      rw (f, le-ltb (room words) (latest (isIn s words b) i) (omega arith))
+      (chain-latest s words n c Test b (named-bucket s words name want) i (latest (isIn s words b) i) (omega arith) (omega arith))

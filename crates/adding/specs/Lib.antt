@@ -1,0 +1,2 @@
+pub mod Adds
+pub mod Holds

@@ -1,0 +1,72 @@
+// Adding to the table: a name, a part of the card, and a base, the place of a path in the card or 0 for the module's prefix.
+use chains::Want;
+use operation::Shortening;
+ghost use mathlib.Core.Path.{_≡_};
+ghost use Prim.Native.Nat.{_<_, _^_};
+ghost use Rattle.prefix.specs.Prefix.{scope};
+ghost use Rattle.chains.specs.Chains.{room};
+ghost use Rattle.adding.specs.Adds.{started, putPair, table, added};
+
+// An empty table: no bucket has a pair.
+pub fn start(work: &mut [u32])
+    ensures { λ r. ⌜ now (work .exit) ≡ started (now (work .entry)) ⌝ }
+{
+    let n = chains::room(work);
+    let mut i = 0;
+    while i < n {
+        let k = 4 * i + 3;
+        work[k] = 0;
+        i += 1;
+    }
+}
+
+// A pair that n pairs stand ahead of becomes the newest of bucket b.
+fn put(work: &mut [u32], n: usize, b: usize, at: u32, len: u32, base: u32)
+    requires { ⌜ (n < room (now work)) × (b < room (now work)) ⌝ }
+    ensures { λ r. ⌜ now (work .exit) ≡ putPair (now (work .entry)) n b at len base ⌝ }
+{
+    let first = chains::head(work, b);
+    let k = 4 * n;
+    work[k] = at;
+    work[k + 1] = len;
+    work[k + 2] = base;
+    let h = wire::word(work[k + 3]) / 65536;
+    work[k + 3] = (h * 65536 + first) as u32;
+    let j = 4 * b + 3;
+    let l = wire::word(work[j]) % 65536;
+    work[j] = ((n + 1) * 65536 + l) as u32;
+}
+
+// The pair is put last among n pairs, if it is not there. The answer is how many pairs there are then; one more than the words have room for says
+// that the table is full, and stays.
+pub fn add(
+    op: Shortening,
+    card: &[u8],
+    root: &[u8],
+    chain: &[usize],
+    work: &mut [u32],
+    n: usize,
+    at: u32,
+    len: u32,
+    base: u16,
+) -> usize
+    ensures { λ r. ⌜ table r (now (work .exit))
+        ≡ added (scope op (now (card .entry)) (now (root .entry)) (now (chain .entry))) (table n (now (work .entry))) at len base ⌝ }
+{
+    let most = chains::room(work);
+    if most < n {
+        return n;
+    }
+    let name = wire::part(card, wire::word(at), wire::word(len));
+    let b = chains::bucket(op, work, name);
+    let w = comparing::base_word(op, card, base);
+    let first = chains::head(work, b);
+    if 0 < chains::seek(op, card, root, chain, work, first, name, Want::Based(w)) {
+        return n;
+    }
+    if n == most {
+        return n + 1;
+    }
+    put(work, n, b, at, len, w as u32);
+    n + 1
+}

@@ -1,0 +1,158 @@
+-- What the functions over pairs and chains answer, test by test. Assumes nothing.
+use mathlib.Core.Path.{_≡_, refl, sym, ap, _∙_}
+use mathlib.Core.List.{List}
+use mathlib.Core.Bool.{Bool, true, false, not, _&&_, _||_, cond}
+use Prim.Native.Nat.{ℕ, zero, suc, _+_, _-_, _*_, _/_, _%_, _^_, _<_, _≤_}
+use native.Mathlib.Omega.{arith}
+use lib.ListN.{take, drop, getD}
+use lib.Dec.{eqb, ltb}
+use borrow.Author.Tests.{eq-eqb, ne-eqb, lt-ltb, le-ltb, ltb-true, eqb-false, not-true, not-false}
+use Rattle.wire.specs.Numbers.{Bytes, sameBytes}
+use Rattle.records.specs.Record.{encode, recordAt}
+use Rattle.rast.specs.Path.{«dafny_runtime»}
+use Rattle.rast.proofs.Tests.{by-test}
+use Rattle.operation.specs.declared.Shortening.{Shortening}
+use Rattle.operation.specs.Operations.{operationOf}
+use Rattle.prefix.specs.Prefix.{Scope}
+use Rattle.comparing.specs.Compares.{hash, placeIn, sameBase}
+use Rattle.chains.specs.declared.Want.{Want}
+use Rattle.chains.specs.declared.Want.the-variants.{Named, Based, Runtime}
+use Rattle.chains.specs.Chains.{room, nameAt, wordAt, linkAt, headAt, bucketOf, headOf, nextOf, hasWanted, isWanted, seekFrom, seek}
+
+module _ (op : Shortening) (words : List ℕ) (name : Bytes) (n : ℕ) (e : n ≡ room words) where
+  pub bucket-none : n ≡ 0 → 0 ≡ bucketOf op words name
+  unfolding bucketOf
+  bucket-none z = rw (eq-eqb (room words) 0 (sym e ∙ z))
+
+  pub bucket-some : (n ≡ 0 → ⊥) → (h : ℕ) → (h ≡ hash op name) × (h < 65536) → h % n ≡ bucketOf op words name
+  unfolding bucketOf
+  bucket-some z h f = rw (e, f .0, ne-eqb (room words) 0 (λ y. z (e ∙ y)))
+
+module _ (words : List ℕ) (b n : ℕ) (e : n ≡ room words) where
+  pub head-some : b < n → (w : ℕ) → (w ≡ getD words (4 * b + 3) 0) × (w < 2 ^ 32) → (w / 65536 ≡ headOf words b) × (w / 65536 < 65536)
+  unfolding headOf
+  head-some l w f = (rw (f .0, lt-ltb b (room words) (omega arith)), omega (arith, f .1))
+
+  pub head-none : n ≤ b → (0 ≡ headOf words b) × (0 < 65536)
+  unfolding headOf
+  head-none l = (rw (le-ltb b (room words) (omega arith)), omega arith)
+
+module _ (words : List ℕ) (g : ℕ) where
+  pub next-zero : g ≡ 0 → 0 ≡ nextOf words g
+  unfolding nextOf
+  next-zero z = rw z
+
+  module _ (z : g ≡ 0 → ⊥) (n : ℕ) (e : n ≡ room words) where
+    pub next-past : n < g → 0 ≡ nextOf words g
+    unfolding nextOf
+    next-past l = rw (ne-eqb g 0 z, lt-ltb (room words) g (omega arith))
+
+    module _ (i : g ≤ n) (w : ℕ) (f : w ≡ getD words (4 * g - 1) 0) where
+      at : w ≡ getD words (4 * (g - 1) + 3) 0
+      at = f ∙ ap (λ (k : ℕ). getD words k 0) (let o : 0 < g = omega (arith, z) in let k : 4 * g - 1 ≡ 4 * (g - 1) + 3 = omega arith in k)
+
+      pub next-falls : w % 65536 < g → w % 65536 ≡ nextOf words g
+      unfolding nextOf
+      next-falls l = rw (ne-eqb g 0 z, le-ltb (room words) g (omega arith), ← at, lt-ltb (w % 65536) g l)
+
+      pub next-not : g ≤ w % 65536 → 0 ≡ nextOf words g
+      unfolding nextOf
+      next-not l = rw (ne-eqb g 0 z, le-ltb (room words) g (omega arith), ← at, le-ltb (w % 65536) g l)
+
+-- a chain's links fall
+pub next-less : (words : List ℕ) (g : ℕ) → 0 < g → nextOf words g < g
+unfolding nextOf
+next-less words g h = go (eqb g 0 || ltb (room words) g) (linkAt words (g - 1))
+  where
+    inner : (l : ℕ) (t : Bool) → ltb l g ≡ t → cond t l 0 < g
+    inner l true e = ltb-true l g e
+    inner l false e = h
+
+    go : (t : Bool) (l : ℕ) → cond t 0 (cond (ltb l g) l 0) < g
+    go true l = h
+    go false l = inner l (ltb l g) refl
+
+module _ (s : Scope) where
+  module _ (want : Want) (w : ℕ) where
+    pub wanted-named : want ≡ Named → true ≡ hasWanted s want w
+    unfolding hasWanted
+    wanted-named e = rw e
+
+    pub wanted-based : (v : ℕ) → want ≡ Based v → (r : Bool) → r ≡ sameBase s w v → r ≡ hasWanted s want w
+    unfolding hasWanted
+    wanted-based v e r f = f ∙ rw e
+
+    module _ (e : want ≡ Runtime) where
+      pub runtime-prefix : w % 65536 ≡ 0 → false ≡ hasWanted s want w
+      unfolding hasWanted
+      runtime-prefix z = rw (e, eq-eqb (w % 65536) 0 z)
+
+      pub runtime-path : (w % 65536 ≡ 0 → ⊥) → (x : Bytes) (r : Bool) → x ≡ recordAt (s .card) (w % 65536) → r ≡ sameBytes x (encode «dafny_runtime»)
+          → r ≡ hasWanted s want w
+      unfolding hasWanted
+      runtime-path z x r f g = g ∙ rw (e, f, ne-eqb (w % 65536) 0 z)
+
+  -- a pair by its first three words
+  module _ (words : List ℕ) (name : Bytes) (want : Want) (i at len : ℕ) (own : Bytes) (t : Bool) (a : at ≡ getD words (4 * i) 0)
+      (l : len ≡ getD words (4 * i + 1) 0)
+      (e : own ≡ take len (drop at (s .card))) (f : t ≡ operationOf (s .op) .sameName own name) where
+    named : t ≡ operationOf (s .op) .sameName (nameAt (s .card) words i) name
+    named = f ∙ ap (λ (x : Bytes). operationOf (s .op) .sameName x name) (e ∙ rw (a, l))
+
+    pub wanted-other : not t ≡ true → false ≡ isWanted s words name want i
+    unfolding isWanted
+    wanted-other n = rw (← named, not-true t n)
+
+    pub wanted-same : not t ≡ false → (w : ℕ) (r : Bool) → w ≡ wordAt words i → r ≡ hasWanted s want w → r ≡ isWanted s words name want i
+    unfolding isWanted
+    wanted-same n w r h g = g ∙ rw (← named, not-false t n, h)
+
+-- seeking: what is left of a chain has what the whole has
+module _ (f : ℕ → Bool) (words : List ℕ) where
+  -- as many steps as the pair's number suffice
+  pub seek-enough : (n m g : ℕ) → g ≤ n → g ≤ m → seekFrom f words n g ≡ seekFrom f words m g
+  unfolding seekFrom
+  seek-enough zero zero g a b = refl
+  seek-enough zero (suc m) g a b = rw (eq-eqb g 0 (omega arith))
+  seek-enough (suc n) zero g a b = rw (eq-eqb g 0 (omega arith))
+  seek-enough (suc n) (suc m) g a b =
+      by-test (eqb g 0) (λ e. rw e)
+      (λ e. let o : 0 < g = (let z = eqb-false g 0 e in omega (arith, z)) in
+      let l = next-less words g o in
+      rw (e, seek-enough n m (nextOf words g) (omega arith) (omega arith)))
+
+  pub record Seeking (from g : ℕ) : Type 0 where
+    pub inside : g ≤ room words
+    pub rest : seek f words from ≡ seekFrom f words g g
+
+  pub seek-past : (from n : ℕ) → n ≡ room words → n < from → 0 ≡ seek f words from
+  unfolding seek
+  seek-past from n e l = rw (lt-ltb (room words) from (omega arith))
+
+  pub seek-start : (from n : ℕ) → n ≡ room words → from ≤ n → Seeking from from
+  unfolding seek
+  seek-start from n e l = record { inside = omega arith; rest = rw (le-ltb (room words) from (omega arith)) }
+
+  module _ (from g : ℕ) (k : Seeking from g) where
+    pub seek-none : g ≤ 0 → 0 ≡ seek f words from
+    unfolding seekFrom
+    seek-none z = sym (k .rest ∙ (let e : g ≡ 0 = omega arith in rw e))
+
+    module _ (o : 0 < g) (t : Bool) (e : t ≡ f (g - 1)) where
+      step : seekFrom f words g g ≡ cond t g (seekFrom f words (g - 1) (nextOf words g))
+      unfolding seekFrom
+      step =
+          let n : g ≡ suc (g - 1) = omega arith in
+          ap (λ (m : ℕ). seekFrom f words m g) n ∙ rw (ne-eqb g 0 (λ z. omega arith), ← e)
+
+      pub seek-found : t ≡ true → g ≡ seek f words from
+      seek-found y = sym (k .rest ∙ step ∙ rw y)
+
+      pub seek-next : t ≡ false → (m : ℕ) → m ≡ nextOf words g → Seeking from m
+      seek-next y m h =
+          let l = next-less words g o in
+          let i = k .inside in
+          rw h (record {
+            inside = omega arith;
+            rest = k .rest ∙ step ∙ rw y (seek-enough (g - 1) (nextOf words g) (nextOf words g) (omega arith) (omega arith));
+          })

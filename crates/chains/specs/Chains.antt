@@ -1,0 +1,60 @@
+-- Pairs in work words, four to a pair, and chains of those whose names have the same hash. Assumes nothing: these are definitions.
+use mathlib.Core.List.{List}
+use mathlib.Core.Bool.{Bool, true, not, _&&_, _||_, cond}
+use Prim.Native.Nat.{ℕ, zero, suc, _+_, _-_, _*_, _/_, _%_, min}
+use lib.ListN.{length, take, drop, getD}
+use lib.Dec.{eqb, ltb}
+use Rattle.wire.specs.Numbers.{Bytes, sameBytes}
+use Rattle.records.specs.Record.{encode, recordAt}
+use Rattle.rast.specs.Path.{«dafny_runtime»}
+use Rattle.operation.specs.declared.Shortening.{Shortening}
+use Rattle.operation.specs.Operations.{operationOf}
+use Rattle.prefix.specs.Prefix.{Scope}
+use Rattle.comparing.specs.Compares.{hash, placeIn, sameBase}
+use Rattle.chains.specs.declared.Want.{Want}
+use Rattle.chains.specs.declared.Want.the-variants.{Named, Based, Runtime}
+
+-- how many pairs words have room for
+abbrev pub room : List ℕ → ℕ
+room words = min (length words / 4) 65535
+
+-- of the pair that i pairs stand ahead of: its name, its base as a word, its link and bucket i's head
+abbrev pub nameAt : Bytes → List ℕ → ℕ → Bytes
+nameAt card words i = take (getD words (4 * i + 1) 0) (drop (getD words (4 * i) 0) card)
+
+abbrev pub wordAt : List ℕ → ℕ → ℕ
+wordAt words i = getD words (4 * i + 2) 0
+
+abbrev pub linkAt : List ℕ → ℕ → ℕ
+linkAt words i = getD words (4 * i + 3) 0 % 65536
+
+abbrev pub headAt : List ℕ → ℕ → ℕ
+headAt words i = getD words (4 * i + 3) 0 / 65536
+
+-- the bucket of a name, a bucket's newest pair, and the pair after pair g, by their numbers from 1 on
+unfoldable pub bucketOf : Shortening → List ℕ → Bytes → ℕ
+bucketOf op words name = cond (eqb (room words) 0) 0 (hash op name % room words)
+
+unfoldable pub headOf : List ℕ → ℕ → ℕ
+headOf words b = cond (ltb b (room words)) (headAt words b) 0
+
+unfoldable pub nextOf : List ℕ → ℕ → ℕ
+nextOf words g = cond (eqb g 0 || ltb (room words) g) 0 (cond (ltb (linkAt words (g - 1)) g) (linkAt words (g - 1)) 0)
+
+module _ (s : Scope) where
+  -- what is sought of a base, as a word: nothing; that it is the same as another; that it is dafny_runtime, as a path of the card
+  unfoldable pub hasWanted : Want → ℕ → Bool
+  hasWanted Named w = true
+  hasWanted (Based v) w = sameBase s w v
+  hasWanted Runtime w = not (eqb (placeIn w) 0) && sameBytes (recordAt (s .card) (placeIn w)) (encode «dafny_runtime»)
+
+  unfoldable pub isWanted : List ℕ → Bytes → Want → ℕ → Bool
+  isWanted words name want i = operationOf (s .op) .sameName (nameAt (s .card) words i) name && hasWanted want (wordAt words i)
+
+-- the first pair of the chain from pair g on that a test holds of; n bounds how many are looked at, and g suffices, since links fall
+unfoldable pub seekFrom : (ℕ → Bool) → List ℕ → ℕ → ℕ → ℕ
+seekFrom f words zero g = 0
+seekFrom f words (suc n) g = cond (eqb g 0) 0 (cond (f (g - 1)) g (seekFrom f words n (nextOf words g)))
+
+unfoldable pub seek : (ℕ → Bool) → List ℕ → ℕ → ℕ
+seek f words g = cond (ltb (room words) g) 0 (seekFrom f words g g)

@@ -1,0 +1,147 @@
+// Pairs in work words, four to a pair: where the name stands in the card, how long it is, the base, and a link. Pairs are numbered from 1; 0 is none.
+// Pairs whose names are in the same bucket, by their hash modulo the room, are chained, the newest first: the lower half of a pair's fourth word is the
+// number of the next one, the upper half that of the first pair of the bucket that has this word's number.
+use operation::Shortening;
+ghost use mathlib.Core.Path.{_≡_};
+ghost use Prim.Native.Nat.{_-_, _<_, _≤_};
+ghost use Rattle.prefix.specs.Prefix.{scope};
+ghost use Rattle.chains.specs.Chains.{room as Chains·room, bucketOf, headOf, nextOf, hasWanted, isWanted, seek as Chains·seek};
+
+// How many pairs words have room for: the number of a pair fits a half word.
+pub fn room(work: &[u32]) -> usize
+    ensures { λ r. ⌜ r ≡ Chains·room (now (work .entry)) ⌝ }
+{
+    let n = work.len() / 4;
+    if 65535 < n {
+        return 65535;
+    }
+    n
+}
+
+// The bucket of a name.
+pub fn bucket(op: Shortening, work: &[u32], name: &[u8]) -> usize
+    ensures { λ r. ⌜ r ≡ bucketOf op (now (work .entry)) (now (name .entry)) ⌝ }
+{
+    let n = room(work);
+    if n == 0 {
+        return 0;
+    }
+    comparing::hash(op, name) % n
+}
+
+// The newest pair of a bucket.
+pub fn head(work: &[u32], b: usize) -> usize
+    ensures { λ r. ⌜ (r ≡ headOf (now (work .entry)) b) × (r < 65536) ⌝ }
+{
+    if b < room(work) {
+        let k = 4 * b + 3;
+        return wire::word(work[k]) / 65536;
+    }
+    0
+}
+
+// The pair after pair g in its chain. A link that does not fall is none, so every chain ends.
+pub fn next(work: &[u32], g: usize) -> usize
+    ensures { λ r. ⌜ r ≡ nextOf (now (work .entry)) g ⌝ }
+{
+    if g == 0 {
+        return 0;
+    }
+    if room(work) < g {
+        return 0;
+    }
+    let k = 4 * g - 1;
+    let l = wire::word(work[k]) % 65536;
+    if l < g {
+        return l;
+    }
+    0
+}
+
+// What is sought of a pair beside its name.
+pub enum Want {
+    // nothing
+    Named,
+    // this base, as a word
+    Based(usize),
+    // ::dafny_runtime, as a path of the card
+    Runtime,
+}
+
+// Whether a base, as a word, is the one that is sought.
+fn has_wanted(
+    op: Shortening,
+    card: &[u8],
+    root: &[u8],
+    chain: &[usize],
+    want: Want,
+    w: usize,
+) -> bool
+    ensures { λ r. ⌜ r ≡ hasWanted (scope op (now (card .entry)) (now (root .entry)) (now (chain .entry))) want w ⌝ }
+{
+    match want {
+        Want::Named => {
+            return true;
+        }
+        Want::Based(v) => {
+            return comparing::same_base(op, card, root, chain, w, v);
+        }
+        Want::Runtime => {}
+    }
+    let at = w % 65536;
+    if at == 0 {
+        return false;
+    }
+    paths::is_runtime(reader::record_at(card, at))
+}
+
+// Whether pair g has this name and what is sought. Names come first: most pairs differ there.
+fn is_wanted(
+    op: Shortening,
+    card: &[u8],
+    root: &[u8],
+    chain: &[usize],
+    work: &[u32],
+    g: usize,
+    name: &[u8],
+    want: Want,
+) -> bool
+    requires { ⌜ (0 < g) × (g ≤ Chains·room (now work)) ⌝ }
+    ensures { λ r. ⌜ r
+        ≡ isWanted (scope op (now (card .entry)) (now (root .entry)) (now (chain .entry))) (now (work .entry)) (now (name .entry)) want (g - 1) ⌝ }
+{
+    let k = 4 * (g - 1);
+    let own = wire::part(card, wire::word(work[k]), wire::word(work[k + 1]));
+    if !comparing::same_name(op, own, name) {
+        return false;
+    }
+    has_wanted(op, card, root, chain, want, wire::word(work[k + 2]))
+}
+
+// The first pair of the chain from pair g on that has this name and what is sought.
+pub fn seek(
+    op: Shortening,
+    card: &[u8],
+    root: &[u8],
+    chain: &[usize],
+    work: &[u32],
+    from: usize,
+    name: &[u8],
+    want: Want,
+) -> usize
+    ensures { λ r. ⌜ r ≡ Chains·seek
+        (isWanted (scope op (now (card .entry)) (now (root .entry)) (now (chain .entry))) (now (work .entry)) (now (name .entry)) want)
+        (now (work .entry)) from ⌝ }
+{
+    if room(work) < from {
+        return 0;
+    }
+    let mut g = from;
+    while 0 < g {
+        if is_wanted(op, card, root, chain, work, g, name, want) {
+            return g;
+        }
+        g = next(work, g);
+    }
+    0
+}

@@ -1,0 +1,4 @@
+pub mod Tests
+pub mod Lists
+pub mod Choices
+pub mod Says

@@ -1,0 +1,122 @@
+-- What the functions answer, case by case. Assumes nothing.
+use mathlib.Core.Path.{_≡_, sym, ap, _∙_}
+use mathlib.Core.List.{List}
+use mathlib.Core.Bool.{Bool, true, false, _||_, cond}
+use Prim.Native.Nat.{ℕ, zero, suc, _+_, _-_, _*_, _<_, _≤_}
+use native.Mathlib.Omega.{arith}
+use lib.ListN.{take, drop, getD}
+use lib.Dec.{eqb, ltb}
+use borrow.Author.Tests.{eq-eqb, ne-eqb, lt-ltb, le-ltb, eqb-false, ltb-false}
+use Rattle.wire.specs.Numbers.{Bytes}
+use Rattle.rast.proofs.Tests.{by-test}
+use Rattle.prefix.specs.Prefix.{Scope}
+use Rattle.comparing.specs.Compares.{sameBase}
+use Rattle.chains.specs.declared.Want.the-variants.{Named, Based, Runtime}
+use Rattle.chains.specs.Chains.{room, nameAt, wordAt, bucketOf, headOf, nextOf, isWanted, seekFrom, seek}
+use Rattle.chains.proofs.Tests.{next-less}
+use Rattle.choosing.specs.Chooses.{chosenOfSeveral, chosenPair, usePair}
+
+-- what is found is a pair that there is room for
+module _ (f : ℕ → Bool) (words : List ℕ) where
+  from-inside : (n g : ℕ) → g ≤ room words → seekFrom f words n g ≤ room words
+  unfolding seekFrom
+  from-inside zero g h = omega arith
+  from-inside (suc n) g h =
+      by-test (eqb g 0) (λ z. rw z (omega arith))
+      (λ z. let o : 0 < g = (let d = eqb-false g 0 z in omega (arith, d)) in
+      let l = next-less words g o in
+      rw z (by-test (f (g - 1)) (λ t. rw t h) (λ t. rw t (from-inside n (nextOf words g) (omega arith)))))
+
+  pub seek-inside : (g : ℕ) → seek f words g ≤ room words
+  unfolding seek
+  seek-inside g = by-test (ltb (room words) g) (λ t. rw t (omega arith)) (λ t. rw t (from-inside g g (ltb-false (room words) g t)))
+
+module _ (s : Scope) (words : List ℕ) (name : Bytes) where
+  several-inside : (g : ℕ) → chosenOfSeveral s words name g ≤ room words
+  unfolding chosenOfSeveral
+  several-inside g =
+      by-test (ltb 0 (seek (isWanted s words name (Based 0)) words g)) (λ t. rw t (seek-inside _ words g)) (λ t. rw t (seek-inside _ words g))
+
+  chosen-inside : chosenPair s words name ≤ room words
+  unfolding chosenPair
+  chosen-inside =
+      let first = headOf words (bucketOf (s .op) words name) in
+      let one = seek (isWanted s words name Named) words first in
+      by-test (eqb one 0) (λ t. rw t (omega arith))
+      (λ t. by-test (eqb (seek (isWanted s words name Named) words (nextOf words one)) 0) (λ u. rw (t, u) (seek-inside _ words first))
+      (λ u. rw (t, u) (several-inside first)))
+
+  pub chosen-room : (c : ℕ) → c ≡ chosenPair s words name → c ≤ room words
+  chosen-room c e = rw e chosen-inside
+
+  module _ (first p : ℕ) (e : p ≡ seek (isWanted s words name (Based 0)) words first) where
+    pub several-prefix : 0 < p → p ≡ chosenOfSeveral s words name first
+    unfolding chosenOfSeveral
+    several-prefix h = rw (← e, lt-ltb 0 p h)
+
+    pub several-runtime : p ≤ 0 → (r : ℕ) → r ≡ seek (isWanted s words name Runtime) words first → r ≡ chosenOfSeveral s words name first
+    unfolding chosenOfSeveral
+    several-runtime h r f = f ∙ rw (← e, le-ltb 0 p h)
+
+  module _ (b first one : ℕ) (f : b ≡ bucketOf (s .op) words name) (g : first ≡ headOf words b)
+      (e : one ≡ seek (isWanted s words name Named) words first) where
+    head-is : headOf words (bucketOf (s .op) words name) ≡ first
+    head-is = sym (g ∙ ap (headOf words) f)
+
+    pub chosen-none : one ≡ 0 → 0 ≡ chosenPair s words name
+    unfolding chosenPair
+    chosen-none z = rw (head-is, ← e, eq-eqb one 0 z)
+
+    module _ (z : one ≡ 0 → ⊥) (n two : ℕ) (h : n ≡ nextOf words one) (k : two ≡ seek (isWanted s words name Named) words n) where
+      two-is : seek (isWanted s words name Named) words (nextOf words one) ≡ two
+      two-is = sym (k ∙ rw h)
+
+      pub chosen-only : two ≡ 0 → one ≡ chosenPair s words name
+      unfolding chosenPair
+      chosen-only y = rw (head-is, ← e, ne-eqb one 0 z, two-is, eq-eqb two 0 y)
+
+      pub chosen-several : (two ≡ 0 → ⊥) → (r : ℕ) → r ≡ chosenOfSeveral s words name first → r ≡ chosenPair s words name
+      unfolding chosenPair
+      chosen-several y r q = q ∙ rw (head-is, ← e, ne-eqb one 0 z, two-is, ne-eqb two 0 y)
+
+module _ (s : Scope) (words : List ℕ) (g : ℕ) where
+  pub use-zero : g ≡ 0 → 0 ≡ usePair s words g
+  unfolding usePair
+  use-zero z = rw z
+
+  module _ (z : g ≡ 0 → ⊥) (n : ℕ) (e : n ≡ room words) where
+    pub use-past : n < g → 0 ≡ usePair s words g
+    unfolding usePair
+    use-past l = rw (ne-eqb g 0 z, lt-ltb (room words) g (omega arith))
+
+    module _ (i : g ≤ n) (at len : ℕ) (name : Bytes) (a : at ≡ getD words (4 * (g - 1)) 0) (l : len ≡ getD words (4 * (g - 1) + 1) 0)
+        (p : name ≡ take len (drop at (s .card))) (m ahead : ℕ) (h : m ≡ nextOf words g) (k : ahead ≡ seek (isWanted s words name Named) words m) where
+      name-is : nameAt (s .card) words (g - 1) ≡ name
+      name-is = sym (p ∙ rw (a, l))
+
+      of-name : usePair s words g
+          ≡ cond (ltb 0 ahead) 0 (let c : ℕ = chosenPair s words name in cond (eqb c 0 || sameBase s (wordAt words (c - 1)) 0) 0 c)
+      unfolding usePair
+      of-name =
+          let q : seek (isWanted s words name Named) words (nextOf words g) ≡ ahead = sym (k ∙ rw h) in
+          rw (ne-eqb g 0 z, le-ltb (room words) g (omega arith), name-is, q)
+
+      pub use-later : 0 < ahead → 0 ≡ usePair s words g
+      use-later o = sym (of-name ∙ rw (lt-ltb 0 ahead o))
+
+      module _ (o : ahead ≤ 0) (c : ℕ) (f : c ≡ chosenPair s words name) where
+        of-chosen : usePair s words g ≡ cond (eqb c 0 || sameBase s (wordAt words (c - 1)) 0) 0 c
+        of-chosen = of-name ∙ rw (le-ltb 0 ahead o, ← f)
+
+        pub use-none : c ≡ 0 → 0 ≡ usePair s words g
+        use-none y = sym (of-chosen ∙ rw (eq-eqb c 0 y))
+
+        module _ (y : c ≡ 0 → ⊥) (w : ℕ) (t : Bool) (q : w ≡ getD words (4 * (c - 1) + 2) 0) (u : t ≡ sameBase s w 0) where
+          of-word : usePair s words g ≡ cond t 0 c
+          of-word = of-chosen ∙ rw (ne-eqb c 0 y, ← q, ← u)
+
+          pub use-prefix : t ≡ true → 0 ≡ usePair s words g
+          use-prefix v = sym (of-word ∙ rw v)
+
+          pub use-is : t ≡ false → c ≡ usePair s words g
+          use-is v = sym (of-word ∙ rw v)

@@ -1,0 +1,224 @@
+-- `choosing::use_of` meets its contract. What is chosen is a pair that there is room for, so its base is one of the words. Assumes nothing.
+use native.Mathlib.Omega.{arith}
+use borrow.Author.Needs.{needs}
+use Rattle.prefix.specs.Prefix.{scope}
+use Rattle.choosing.proofs.Tests.{chosen-room, use-zero, use-past, use-later, use-none, use-prefix, use-is}
+use Rattle.choosing.proofs.use_of.Statement.{statement}
+use Rattle.choosing.proofs.use_of.Tie as tie
+use Rattle.choosing.proofs.use_of.Reads as reads
+use Rattle.choosing.proofs.use_of.Lts as lts
+use Rattle.chains.proofs.next.Reads as next-reads
+use Rattle.chains.proofs.room.Reads as room-reads
+use Rattle.chains.proofs.seek.Reads as seek-reads
+use Rattle.choosing.proofs.chosen.Reads as chosen-reads
+use Rattle.comparing.proofs.same_base.Reads as same-base-reads
+use Rattle.wire.proofs.part.Reads as part-reads
+use Rattle.wire.proofs.word.Reads as word-reads
+
+returns : tie.Need-returns
+returns c =
+    let args = c .before .before .before .before .before .args in
+    let if1 = c .if1 in
+    use-zero (scope (args .op) (args .card .now) (args .root .now) (args .chain .now)) (args .work .now) _ (if1 .taken)
+
+room-requires : tie.Need-room-requires
+room-requires c κs = search needs
+
+returns-2 : tie.Need-returns-2
+returns-2 c =
+    let args = c .before .before .before .before .before .before .before .args in
+    let if1 = c .before .before .if1 in
+    let room = c .before .room in
+    let if2 = c .if2 in
+    use-past (scope (args .op) (args .card .now) (args .root .now) (args .chain .now)) (args .work .now) _ (if1 .left) _ (room .ensures)
+    (if2 .taken)
+
+sub-k : tie.Need-sub-k
+sub-k c = search needs
+
+mul-k : tie.Need-mul-k
+mul-k c = search needs
+
+mul-word : tie.Need-mul-word
+mul-word c = search needs
+
+shared-slice-read-word : tie.Need-shared-slice-read-word
+shared-slice-read-word c = search needs
+
+word-requires : tie.Need-word-requires
+word-requires c κs = search needs
+
+add-word : tie.Need-add-word
+add-word c = search needs
+
+mul-word-2 : tie.Need-mul-word-2
+mul-word-2 c = search needs
+
+shared-slice-read-word-2 : tie.Need-shared-slice-read-word-2
+shared-slice-read-word-2 c = search needs
+
+word-requires-2 : tie.Need-word-requires-2
+word-requires-2 c κs = search needs
+
+part-requires : tie.Need-part-requires
+part-requires c κs = search needs
+
+next-requires : tie.Need-next-requires
+next-requires c κs = search needs
+
+seek-requires : tie.Need-seek-requires
+seek-requires c κs = search needs
+
+returns-3 : tie.Need-returns-3
+returns-3 c =
+    let args = c .before .before .before .before .before .before .before .before .before .before .before .before .before .before .before .args in
+    let if1 = c .before .before .before .before .before .before .before .before .before .before .if1 in
+    let room = c .before .before .before .before .before .before .before .before .before .room in
+    let if2 = c .before .before .before .before .before .before .before .before .if2 in
+    let word = c .before .before .before .before .before .before .word in
+    let word2 = c .before .before .before .before .word2 in
+    let part = c .before .before .before .part in
+    let next = c .before .before .next in
+    let seek = c .before .seek in
+    let if3 = c .if3 in
+    use-later (scope (args .op) (args .card .now) (args .root .now) (args .chain .now)) (args .work .now) _ (if1 .left) _ (room .ensures)
+    (if2 .left) _ _ _ (word .ensures .0) (word2 .ensures .0) (part .ensures) _ _ (next .ensures) (seek .ensures) (if3 .taken)
+
+chosen-requires : tie.Need-chosen-requires
+chosen-requires c κs = search needs
+
+returns-4 : tie.Need-returns-4
+returns-4 c =
+    let args = c .before .before .before .before .before .before .before .before .before .before .before .before
+    .before .before .before .before .before .args in
+    let if1 = c .before .before .before .before .before .before .before .before .before .before .before .before .if1 in
+    let room = c .before .before .before .before .before .before .before .before .before .before .before .room in
+    let if2 = c .before .before .before .before .before .before .before .before .before .before .if2 in
+    let word = c .before .before .before .before .before .before .before .before .word in
+    let word2 = c .before .before .before .before .before .before .word2 in
+    let part = c .before .before .before .before .before .part in
+    let next = c .before .before .before .before .next in
+    let seek = c .before .before .before .seek in
+    let if3 = c .before .before .if3 in
+    let chosen = c .before .chosen in
+    let if4 = c .if4 in
+    use-none (scope (args .op) (args .card .now) (args .root .now) (args .chain .now)) (args .work .now) _ (if1 .left) _ (room .ensures)
+    (if2 .left) _ _ _ (word .ensures .0) (word2 .ensures .0) (part .ensures) _ _ (next .ensures) (seek .ensures) (if3 .left) _
+    (chosen .ensures) (if4 .taken)
+
+sub-m : tie.Need-sub-m
+sub-m c = search needs
+
+mul-m : tie.Need-mul-m
+mul-m c =
+    let args = c .before .before .before .before .before .before .before .before .before .before .before .before
+    .before .before .before .before .before .args in
+    let chosen = c .before .chosen in
+    let i = chosen-room (scope (args .op) (args .card .now) (args .root .now) (args .chain .now)) (args .work .now) _ _ (chosen .ensures) in
+    omega arith
+
+add-m : tie.Need-add-m
+add-m c =
+    let args = c .before .before .before .before .before .before .before .before .before .before .before .before
+    .before .before .before .before .before .args in
+    let chosen = c .before .chosen in
+    let i = chosen-room (scope (args .op) (args .card .now) (args .root .now) (args .chain .now)) (args .work .now) _ _ (chosen .ensures) in
+    omega arith
+
+mul-word-3 : tie.Need-mul-word-3
+mul-word-3 c =
+    let args = c .before .before .before .before .before .before .before .before .before .before .before .before
+    .before .before .before .before .before .args in
+    let chosen = c .before .chosen in
+    let i = chosen-room (scope (args .op) (args .card .now) (args .root .now) (args .chain .now)) (args .work .now) _ _ (chosen .ensures) in
+    omega arith
+
+shared-slice-read-word-3 : tie.Need-shared-slice-read-word-3
+shared-slice-read-word-3 c =
+    let args = c .before .before .before .before .before .before .before .before .before .before .before .before
+    .before .before .before .before .before .before .args in
+    let chosen = c .before .before .chosen in
+    let i = chosen-room (scope (args .op) (args .card .now) (args .root .now) (args .chain .now)) (args .work .now) _ _ (chosen .ensures) in
+    omega arith
+
+word-requires-3 : tie.Need-word-requires-3
+word-requires-3 c κs = search needs
+
+same-base-requires : tie.Need-same-base-requires
+same-base-requires c κs = search needs
+
+returns-5 : tie.Need-returns-5
+returns-5 c =
+    let args = c .before .before .before .before .before .before .before .before .before .before .before .before
+    .before .before .before .before .before .before .before .before .before .args in
+    let if1 = c .before .before .before .before .before .before .before .before .before .before .before .before .before .before .before .before .if1 in
+    let room = c .before .before .before .before .before .before .before .before .before .before .before .before .before .before .before .room in
+    let if2 = c .before .before .before .before .before .before .before .before .before .before .before .before .before .before .if2 in
+    let word = c .before .before .before .before .before .before .before .before .before .before .before .before .word in
+    let word2 = c .before .before .before .before .before .before .before .before .before .before .word2 in
+    let part = c .before .before .before .before .before .before .before .before .before .part in
+    let next = c .before .before .before .before .before .before .before .before .next in
+    let seek = c .before .before .before .before .before .before .before .seek in
+    let if3 = c .before .before .before .before .before .before .if3 in
+    let chosen = c .before .before .before .before .before .chosen in
+    let if4 = c .before .before .before .before .if4 in
+    let word3 = c .before .before .word3 in
+    let same-base = c .before .same-base in
+    let if5 = c .if5 in
+    use-prefix (scope (args .op) (args .card .now) (args .root .now) (args .chain .now)) (args .work .now) _ (if1 .left) _ (room .ensures)
+    (if2 .left) _ _ _ (word .ensures .0) (word2 .ensures .0) (part .ensures) _ _ (next .ensures) (seek .ensures) (if3 .left) _
+    (chosen .ensures) (if4 .left) _ _ (word3 .ensures .0) (same-base .ensures) (if5 .taken)
+
+returns-6 : tie.Need-returns-6
+returns-6 c =
+    let args = c .before .before .before .before .before .before .before .before .before .before .before .before
+    .before .before .before .before .before .before .before .before .before .args in
+    let if1 = c .before .before .before .before .before .before .before .before .before .before .before .before .before .before .before .before .if1 in
+    let room = c .before .before .before .before .before .before .before .before .before .before .before .before .before .before .before .room in
+    let if2 = c .before .before .before .before .before .before .before .before .before .before .before .before .before .before .if2 in
+    let word = c .before .before .before .before .before .before .before .before .before .before .before .before .word in
+    let word2 = c .before .before .before .before .before .before .before .before .before .before .word2 in
+    let part = c .before .before .before .before .before .before .before .before .before .part in
+    let next = c .before .before .before .before .before .before .before .before .next in
+    let seek = c .before .before .before .before .before .before .before .seek in
+    let if3 = c .before .before .before .before .before .before .if3 in
+    let chosen = c .before .before .before .before .before .chosen in
+    let if4 = c .before .before .before .before .if4 in
+    let word3 = c .before .before .word3 in
+    let same-base = c .before .same-base in
+    let if5 = c .if5 in
+    use-is (scope (args .op) (args .card .now) (args .root .now) (args .chain .now)) (args .work .now) _ (if1 .left) _ (room .ensures)
+    (if2 .left) _ _ _ (word .ensures .0) (word2 .ensures .0) (part .ensures) _ _ (next .ensures) (seek .ensures) (if3 .left) _
+    (chosen .ensures) (if4 .left) _ _ (word3 .ensures .0) (same-base .ensures) (if5 .left)
+
+pub use-of-spec : {M : Type 1} → statement M
+use-of-spec =
+    tie.close
+    (tie.spec
+    returns
+    room-requires
+    returns-2
+    sub-k
+    mul-k
+    mul-word
+    shared-slice-read-word
+    word-requires
+    add-word
+    mul-word-2
+    shared-slice-read-word-2
+    word-requires-2
+    part-requires
+    next-requires
+    seek-requires
+    returns-3
+    chosen-requires
+    returns-4
+    sub-m
+    mul-m
+    add-m
+    mul-word-3
+    shared-slice-read-word-3
+    word-requires-3
+    same-base-requires
+    returns-5
+    returns-6)

@@ -1,0 +1,2 @@
+pub mod Chooses
+pub mod Picks

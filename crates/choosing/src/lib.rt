@@ -1,0 +1,84 @@
+// What a table says: the pair whose base is chosen for a name, and the use that a pair brings. Pairs are numbered from 1; 0 is none.
+use chains::Want;
+use operation::Shortening;
+ghost use mathlib.Core.Path.{_≡_};
+ghost use Rattle.prefix.specs.Prefix.{scope};
+ghost use Rattle.choosing.specs.Chooses.{chosenOfSeveral, chosenPair, usePair};
+
+// Among several pairs of a name: the one that has the prefix, else the one that has ::dafny_runtime.
+fn chosen_of_several(
+    op: Shortening,
+    card: &[u8],
+    root: &[u8],
+    chain: &[usize],
+    work: &[u32],
+    first: usize,
+    name: &[u8],
+) -> usize
+    ensures { λ r. ⌜ r ≡ chosenOfSeveral (scope op (now (card .entry)) (now (root .entry)) (now (chain .entry)))
+        (now (work .entry)) (now (name .entry)) first ⌝ }
+{
+    let p = chains::seek(op, card, root, chain, work, first, name, Want::Based(0));
+    if 0 < p {
+        return p;
+    }
+    chains::seek(op, card, root, chain, work, first, name, Want::Runtime)
+}
+
+// The pair that has the base chosen for a name: its only one, else as above.
+pub fn chosen(
+    op: Shortening,
+    card: &[u8],
+    root: &[u8],
+    chain: &[usize],
+    work: &[u32],
+    name: &[u8],
+) -> usize
+    ensures { λ r. ⌜ r ≡ chosenPair (scope op (now (card .entry)) (now (root .entry)) (now (chain .entry))) (now (work .entry)) (now (name .entry)) ⌝ }
+{
+    let first = chains::head(work, chains::bucket(op, work, name));
+    let one = chains::seek(op, card, root, chain, work, first, name, Want::Named);
+    if one == 0 {
+        return 0;
+    }
+    let after = chains::next(work, one);
+    let two = chains::seek(op, card, root, chain, work, after, name, Want::Named);
+    if two == 0 {
+        return one;
+    }
+    chosen_of_several(op, card, root, chain, work, first, name)
+}
+
+// The pair that has the base of the use that pair g brings: the one chosen for its name, unless a pair ahead has the name, or the base is the prefix.
+pub fn use_of(
+    op: Shortening,
+    card: &[u8],
+    root: &[u8],
+    chain: &[usize],
+    work: &[u32],
+    g: usize,
+) -> usize
+    ensures { λ r. ⌜ r ≡ usePair (scope op (now (card .entry)) (now (root .entry)) (now (chain .entry))) (now (work .entry)) g ⌝ }
+{
+    if g == 0 {
+        return 0;
+    }
+    if chains::room(work) < g {
+        return 0;
+    }
+    let k = 4 * (g - 1);
+    let name = wire::part(card, wire::word(work[k]), wire::word(work[k + 1]));
+    let after = chains::next(work, g);
+    if 0 < chains::seek(op, card, root, chain, work, after, name, Want::Named) {
+        return 0;
+    }
+    let c = chosen(op, card, root, chain, work, name);
+    if c == 0 {
+        return 0;
+    }
+    let m = 4 * (c - 1) + 2;
+    if comparing::same_base(op, card, root, chain, wire::word(work[m]), 0) {
+        return 0;
+    }
+    c
+}

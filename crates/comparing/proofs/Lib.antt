@@ -1,0 +1,3 @@
+pub mod Operations
+pub mod Hashes
+pub mod Bases

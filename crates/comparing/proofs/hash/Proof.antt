@@ -1,0 +1,20 @@
+-- `comparing::hash` meets its contract, operation by operation. Assumes nothing.
+use borrow.Author.Needs.{needs}
+use Rattle.comparing.proofs.Operations.{upstream-hash}
+use Rattle.comparing.proofs.hash.Statement.{statement}
+use Rattle.comparing.proofs.hash.Tie as tie
+use Rattle.comparing.proofs.hash.Reads as reads
+use Rattle.comparing.proofs.hash.Lts as lts
+use Rattle.comparing.proofs.hash_bytes.Reads as hash-bytes-reads
+
+hash-bytes-requires : tie.Need-hash-bytes-requires
+hash-bytes-requires c κs = search needs
+
+returns : tie.Need-returns
+returns c =
+    let args = c .before .before .args in
+    let hash-bytes = c .hash-bytes in
+    upstream-hash (args .op) _ _ (hash-bytes .ensures)
+
+pub hash-spec : {M : Type 1} → statement M
+hash-spec = tie.close (tie.spec hash-bytes-requires returns)

@@ -1,0 +1,39 @@
+-- The hash of a name, and a base as a word of the table, compared. Assumes nothing: these are definitions.
+use mathlib.Core.List.{[], _∷_}
+use mathlib.Core.Bool.{Bool, false, _||_, cond}
+use Prim.Native.Nat.{ℕ, _+_, _*_, _/_, _%_}
+use lib.Dec.{eqb}
+use Rattle.wire.specs.Numbers.{Bytes}
+use Rattle.records.specs.Record.{recordAt}
+use Rattle.operation.specs.declared.Shortening.{Shortening}
+use Rattle.operation.specs.declared.Shortening.the-variants.{Upstream}
+use Rattle.operation.specs.Operations.{samePaths}
+use Rattle.prefix.specs.Prefix.{Scope, prefixIn}
+
+unfoldable pub hashFrom : ℕ → Bytes → ℕ
+hashFrom h [] = h
+hashFrom h (b ∷ s) = hashFrom ((h * 31 + b) % 65536) s
+
+-- of a name, and of a path's record: the same where these are the same
+abbrev pub hash : Shortening → Bytes → ℕ
+hash Upstream s = hashFrom 0 s
+
+-- a word's lower half is a base's place in the card, 0 for the prefix; its upper half is the hash of that path's record
+abbrev pub placeIn : ℕ → ℕ
+placeIn w = w % 65536
+
+abbrev pub tagIn : ℕ → ℕ
+tagIn w = w / 65536
+
+unfoldable pub baseWord : Shortening → (card : Bytes) → ℕ → ℕ
+baseWord op card place = cond (eqb place 0) 0 (place + 65536 * hash op (recordAt card place))
+
+-- the base at a place
+unfoldable pub baseAt : Scope → ℕ → Bytes
+baseAt s place = cond (eqb place 0) (prefixIn s) (recordAt (s .card) place)
+
+-- whether two words say the same base: paths of the card with different hashes are different
+unfoldable pub sameBase : Scope → ℕ → ℕ → Bool
+sameBase s v w =
+    cond (eqb (placeIn v) 0 || (eqb (placeIn w) 0 || eqb (tagIn v) (tagIn w)))
+    (samePaths (s .op) (baseAt s (placeIn v)) (baseAt s (placeIn w))) false

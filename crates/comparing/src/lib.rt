@@ -1,0 +1,85 @@
+// When two names are the same and when two bases are: asked here alone. And numbers that are the same where these are, to look them up by.
+use operation::Shortening;
+ghost use mathlib.Core.Path.{_≡_};
+ghost use Prim.Native.Nat.{_<_, _^_};
+ghost use Rattle.operation.specs.Operations.{operationOf, samePaths};
+ghost use Rattle.prefix.specs.Prefix.{scope};
+ghost use Rattle.comparing.specs.Compares.{hashFrom, hash as Compares·hash, baseWord, sameBase};
+
+// A number under 65536 made of bytes.
+fn hash_bytes(s: &[u8]) -> usize
+    ensures { λ r. ⌜ (r ≡ hashFrom 0 (now (s .entry))) × (r < 65536) ⌝ }
+{
+    let mut h: usize = 0;
+    let mut i = 0;
+    while i < s.len() {
+        h = (h * 31 + wire::wide(s[i])) % 65536;
+        i += 1;
+    }
+    h
+}
+
+// The same for names that are the same.
+pub fn hash(op: Shortening, name: &[u8]) -> usize
+    ensures { λ r. ⌜ (r ≡ Compares·hash op (now (name .entry))) × (r < 65536) ⌝ }
+{
+    match op {
+        Shortening::Upstream => hash_bytes(name),
+    }
+}
+
+pub fn same_name(op: Shortening, a: &[u8], b: &[u8]) -> bool
+    ensures { λ r. ⌜ r ≡ operationOf op .sameName (now (a .entry)) (now (b .entry)) ⌝ }
+{
+    match op {
+        Shortening::Upstream => wire::same(a, b),
+    }
+}
+
+// Two paths, by their records.
+fn same_path(op: Shortening, a: &[u8], b: &[u8]) -> bool
+    ensures { λ r. ⌜ r ≡ samePaths op (now (a .entry)) (now (b .entry)) ⌝ }
+{
+    match op {
+        Shortening::Upstream => wire::same(a, b),
+    }
+}
+
+// A base as a word: its place in the card, or 0 for the prefix, and above it a number that is the same for paths that are the same.
+pub fn base_word(op: Shortening, card: &[u8], place: u16) -> usize
+    ensures { λ r. ⌜ (r ≡ baseWord op (now (card .entry)) place) × (r < 2 ^ 32) ⌝ }
+{
+    if place == 0 {
+        return 0;
+    }
+    let at = place as usize;
+    at + 65536 * hash(op, reader::record_at(card, at))
+}
+
+// Whether two words say the same base. The numbers above the places spare most comparisons of bytes.
+pub fn same_base(
+    op: Shortening,
+    card: &[u8],
+    root: &[u8],
+    chain: &[usize],
+    v: usize,
+    w: usize,
+) -> bool
+    ensures { λ r. ⌜ r ≡ sameBase (scope op (now (card .entry)) (now (root .entry)) (now (chain .entry))) v w ⌝ }
+{
+    let a = v % 65536;
+    let b = w % 65536;
+    if a == 0 {
+        if b == 0 {
+            return true;
+        }
+        return prefix::is_prefix(op, reader::record_at(card, b), card, root, chain);
+    }
+    if b == 0 {
+        return prefix::is_prefix(op, reader::record_at(card, a), card, root, chain);
+    }
+    if v / 65536 != w / 65536 {
+        return false;
+    }
+    same_path(op, reader::record_at(card, a), reader::record_at(card, b))
+}

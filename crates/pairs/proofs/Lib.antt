@@ -1,0 +1,4 @@
+pub mod Puts
+pub mod Bytes
+pub mod Means
+pub mod Says

@@ -1,0 +1,4 @@
+pub mod Pairs
+pub mod Stored
+pub mod Choice
+pub mod Means

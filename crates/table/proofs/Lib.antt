@@ -1,9 +1,0 @@
-pub mod Puts
-pub mod Bases
-pub mod Seeks
-pub mod Finds
-pub mod Choices
-pub mod Adds
-pub mod Stores
-pub mod Means
-pub mod Says

@@ -1,13 +1,16 @@
-//! Collecting, the proved code, beside collecting in Rust: the same answers, and how fast.
+//! Collecting, the proved code, beside two in Rust, by a typed tree and by a walk over bytes: the same
+//! answers, and how fast.
+use std::collections::HashMap;
+use std::env;
 use std::hint::black_box;
 use std::process::ExitCode;
 use std::time::{Duration, Instant};
-use yardstick::collect::count;
-use yardstick::own;
 use yardstick::text::{self, Vector};
+use yardstick::{classes, collect, own, walk};
 
-const ROUNDS: usize = 15;
-const PASSES: usize = 10;
+const ROUNDS: usize = 30;
+/// A round of a class goes over so many bytes of cards, or once over them all.
+const BYTES: usize = 1 << 18;
 
 // Nothing checks this against the Rattle source: a slice is a pointer and then a length.
 extern "C" {
@@ -21,13 +24,19 @@ extern "C" {
     ) -> u64;
 }
 
+/// What is known of an answer beforehand.
+#[derive(Debug)]
+enum Due {
+    Answer(u64),
+    Accepted,
+    Open,
+}
+
 struct Case {
     root: Vec<u8>,
     card: Vec<u8>,
     words: usize,
-    /// The vector's refusal, or None where this is open or accepted.
-    refusal: Option<u64>,
-    own: bool,
+    due: Due,
 }
 
 fn packed(number: u32, place: usize) -> u64 {
@@ -43,114 +52,219 @@ fn ours(c: &Case, work: &mut [u32]) -> u64 {
     }
 }
 
-fn rust(c: &Case, work: &mut [u32]) -> u64 {
-    match count(&c.card, &c.root, work.len()) {
+fn answer(answer: collect::Reading<usize>) -> u64 {
+    match answer {
         Ok(pairs) => pairs as u64,
         Err(refusal) => packed(refusal.number, refusal.place),
     }
 }
 
-/// With its number of pairs.
-type Accepted<'a> = (u64, &'a Case);
-type Collect = fn(&Case, &mut [u32]) -> u64;
-
-/// The work words are cleared before each call, out of the time, for both alike.
-fn time(cases: &[Accepted], work: &mut [u32], collect: Collect) -> Duration {
-    let mut sum = Duration::ZERO;
-    for _ in 0..PASSES {
-        for (_, c) in cases {
-            let work = &mut work[..c.words];
-            work.fill(0);
-            let start = Instant::now();
-            black_box(collect(black_box(c), black_box(work)));
-            sum += start.elapsed();
-        }
-    }
-    sum
+fn typed(c: &Case, work: &mut [u32]) -> u64 {
+    answer(collect::count(&c.card, &c.root, work.len()))
 }
 
-fn median(mut times: Vec<Duration>, calls: usize) -> f64 {
-    times.sort();
-    times[times.len() / 2].as_secs_f64() * 1e6 / calls as f64
+/// The hash map grows.
+fn walked(c: &Case, work: &mut [u32]) -> u64 {
+    answer(walk::count(&c.card, &c.root, work.len(), 0))
 }
 
-fn measure(what: &str, cases: &[Accepted], work: &mut [u32]) {
-    let (mut by_ours, mut by_rust) = (Vec::new(), Vec::new());
-    for round in 0..ROUNDS {
-        // Each goes first in every other round.
-        if round % 2 == 0 {
-            by_ours.push(time(cases, work, ours));
-            by_rust.push(time(cases, work, rust));
-        } else {
-            by_rust.push(time(cases, work, rust));
-            by_ours.push(time(cases, work, ours));
-        }
+/// The hash map has room for 512 pairs from the start.
+fn roomy(c: &Case, work: &mut [u32]) -> u64 {
+    answer(walk::count(&c.card, &c.root, work.len(), 512))
+}
+
+/// To take off what measuring itself takes.
+fn nothing(_: &Case, _: &mut [u32]) -> u64 {
+    0
+}
+
+type Way = fn(&Case, &mut [u32]) -> u64;
+const WAYS: [(&str, Way); 5] =
+    [("ours", ours), ("typed", typed), ("walk", walked), ("roomy", roomy), ("nothing", nothing)];
+
+/// Whether the two in Rust have the same pairs in the same order, where the card is accepted.
+fn same_pairs(c: &Case) -> bool {
+    let Ok(module) = collect::read(&c.card, &c.root, c.words) else {
+        return true;
+    };
+    let prefix = collect::prefix(&c.root, &module);
+    let Ok(mapping) = collect::collect(&module, &prefix) else {
+        return true;
+    };
+    walk::collect(&c.card, &c.root, c.words, 0, |pairs| pairs == mapping.pairs) == Ok(true)
+}
+
+/// What is wrong with the answers to a case, if anything. The work words are as long as it says.
+fn difference(c: &Case, work: &mut [u32]) -> Option<String> {
+    work.fill(0);
+    let [ours, typed, walked, roomy] = [ours, typed, walked, roomy].map(|way: Way| way(c, work));
+    let fits = match c.due {
+        Due::Answer(due) => typed == due,
+        Due::Accepted => typed < 1 << 32,
+        Due::Open => true,
+    };
+    if [ours, walked, roomy] != [typed; 3] || !fits {
+        return Some(format!(
+            "ours {ours:#x}, typed {typed:#x}, walk {walked:#x} and {roomy:#x}, due {:x?}",
+            c.due
+        ));
     }
-    let calls = PASSES * cases.len();
-    let (ours, rust) = (median(by_ours, calls), median(by_rust, calls));
-    println!("{what}: ours / Rust = {:.2}; a card takes {ours:.2} and {rust:.2} microseconds", ours / rust);
+    (!same_pairs(c)).then(|| "the pairs of the walk differ from those of the typed tree".to_string())
+}
+
+struct Class<'a> {
+    what: String,
+    cases: Vec<&'a Case>,
+}
+
+impl Class<'_> {
+    fn bytes(&self) -> usize {
+        self.cases.iter().map(|c| c.card.len()).sum()
+    }
+
+    /// The work words are cleared before each call, out of the time, for all alike.
+    fn time(&self, passes: usize, work: &mut [u32], way: Way) -> Duration {
+        let mut sum = Duration::ZERO;
+        for _ in 0..passes {
+            for c in &self.cases {
+                let work = &mut work[..c.words];
+                work.fill(0);
+                let start = Instant::now();
+                black_box(way(black_box(c), black_box(work)));
+                sum += start.elapsed();
+            }
+        }
+        sum
+    }
+
+    /// Microseconds of a call by each way but nothing, what measuring itself takes taken off.
+    fn measure(&self, work: &mut [u32]) -> [f64; 4] {
+        let passes = 1 + BYTES / self.bytes();
+        let mut times = [(); WAYS.len()].map(|_| Vec::new());
+        for round in 0..ROUNDS {
+            // Another goes first each time.
+            for i in 0..WAYS.len() {
+                let i = (round + i) % WAYS.len();
+                times[i].push(self.time(passes, work, WAYS[i].1));
+            }
+        }
+        let [ways @ .., nothing] = times.map(|mut times| {
+            times.sort();
+            times[ROUNDS / 2].as_secs_f64() * 1e6 / (passes * self.cases.len()) as f64
+        });
+        ways.map(|time| time - nothing)
+    }
 }
 
 fn main() -> ExitCode {
     text::with_vectors(run)
 }
 
-fn run(vectors: Vec<Vector>) -> ExitCode {
-    let mut cases: Vec<Case> = vectors
-        .into_iter()
-        .map(|v| Case {
-            refusal: match (v.number, v.value) {
-                (1..=7, _) | (8, 0) => Some(packed(v.number, v.value)),
-                _ => None,
-            },
-            root: v.root,
-            card: v.card,
-            words: v.words,
-            own: false,
-        })
-        .collect();
-    let vectors = cases.len();
-    cases.extend(own::cases().into_iter().map(|c| Case {
-        root: c.root,
-        card: c.card,
-        words: c.words,
-        refusal: None,
-        own: true,
-    }));
-    let mut work = vec![0; cases.iter().map(|c| c.words).max().unwrap_or(0)];
+fn of_vector(v: Vector) -> Case {
+    let due = match (v.number, v.value) {
+        (1..=7, _) | (8, 0) => Due::Answer(packed(v.number, v.value)),
+        _ => Due::Accepted,
+    };
+    Case { root: v.root, card: v.card, words: v.words, due }
+}
 
+fn made(card: Vec<u8>, due: Due) -> Case {
+    // The root is Crate.
+    Case { root: vec![2, 0, 0, 0, 0x11, 0], card, words: 2048, due }
+}
+
+/// How many pairs a card has, none where it is refused.
+fn pairs_of(c: &Case) -> usize {
+    collect::count(&c.card, &c.root, c.words).unwrap_or(0)
+}
+
+/// For a profiler: only this way, over one class, so many times.
+fn only(classes: &[Class], way: &str, work: &mut [u32]) -> ExitCode {
+    let way = WAYS.iter().find(|(name, _)| *name == way);
+    let class = env::args().nth(3).and_then(|what| classes.iter().find(|c| c.what == what));
+    let times = env::args().nth(4).and_then(|times| times.parse().ok());
+    let (Some(&(_, way)), Some(class), Some(times)) = (way, class, times) else {
+        eprintln!("after VECTORS: ours, typed, walk or roomy, then a class, then how many times");
+        return ExitCode::from(2);
+    };
+    class.time(times, work, way);
+    ExitCode::SUCCESS
+}
+
+fn run(vectors: Vec<Vector>) -> ExitCode {
+    let vectors: Vec<Case> = vectors.into_iter().map(of_vector).collect();
+    let own: Vec<Case> = own::cases()
+        .into_iter()
+        .map(|c| Case { root: c.root, card: c.card, words: c.words, due: Due::Open })
+        .collect();
+    let pairs = [8, 32, 128, 512].map(|n| (n, made(classes::pairs(n), Due::Answer(n as u64))));
+    let one_name = made(classes::one_name(512), Due::Answer(512));
+    let typical = [1, 4, 16, 32].map(|k| (k, made(classes::typical(k << 10), Due::Accepted)));
+
+    let mut list = Vec::new();
+    for (n, c) in &pairs {
+        list.push(Class { what: format!("{n} pairs"), cases: vec![c] });
+    }
+    list.push(Class { what: "one name".to_string(), cases: vec![&one_name] });
+    for (k, c) in &typical {
+        list.push(Class { what: format!("{k} KB"), cases: vec![c] });
+    }
+    let made: Vec<&Case> = list.iter().flat_map(|class| class.cases.clone()).collect();
+    let accepted = vectors.iter().filter(|c| matches!(c.due, Due::Accepted)).collect();
+    list.push(Class { what: "accepted".to_string(), cases: accepted });
+    list.push(Class { what: "vectors".to_string(), cases: vectors.iter().collect() });
+
+    let all = || vectors.iter().chain(&own).chain(made.iter().copied());
+    let mut work = vec![0; all().map(|c| c.words).max().unwrap_or(0)];
+    if let Some(way) = env::args().nth(2) {
+        return only(&list, &way, &mut work);
+    }
     let mut differ = 0;
-    let mut accepted = Vec::new();
-    for (i, c) in cases.iter().enumerate() {
-        let work = &mut work[..c.words];
-        work.fill(0);
-        let (ours, rust) = (ours(c, work), rust(c, work));
-        let accepts = rust < 1 << 32;
-        let fits = match c.refusal {
-            Some(refusal) => rust == refusal,
-            None => accepts || c.own,
-        };
-        if ours != rust || !fits {
-            println!("case {}: ours {ours:#x}, Rust {rust:#x}, vector {:x?}", i + 1, c.refusal);
+    for (i, c) in all().enumerate() {
+        if let Some(how) = difference(c, &mut work[..c.words]) {
+            println!("case {}: {how}", i + 1);
             differ += 1;
         }
-        if accepts {
-            accepted.push((rust, c));
-        }
     }
-    println!("collecting: {differ} of {} cases differ ({vectors} vectors, then our own)", cases.len());
-    let (mine, mut sound): (Vec<_>, Vec<_>) = accepted.into_iter().partition(|(_, c)| c.own);
-    if differ > 0 || sound.len() < 20 {
+    println!(
+        "collecting: {differ} of {} cases differ ({} vectors, {} of our own, {} of the classes)",
+        all().count(),
+        vectors.len(),
+        own.len(),
+        made.len()
+    );
+    if differ > 0 || vectors.is_empty() {
         println!("nothing is measured");
         return ExitCode::FAILURE;
     }
 
-    println!("medians of {ROUNDS} rounds, reading and collecting:");
-    measure(&format!("all {} accepted vectors", sound.len()), &sound, &mut work);
-    sound.sort_by_key(|&(pairs, _)| std::cmp::Reverse(pairs));
-    let most = &sound[..20];
-    measure(&format!("the 20 vectors with most pairs, {} to {}", most[19].0, most[0].0), most, &mut work);
-    let many: Vec<_> = mine.into_iter().filter(|&(pairs, _)| pairs >= 100).collect();
-    measure(&format!("{} of our own with 100 pairs or more", many.len()), &many, &mut work);
+    report(&list, &mut work);
     ExitCode::SUCCESS
+}
+
+fn report(classes: &[Class], work: &mut [u32]) {
+    println!(
+        "reading and collecting, medians of {ROUNDS} rounds: ours against each, then microseconds of a card"
+    );
+    println!("class        bytes  pairs   typed   walk  roomy        ours    typed     walk    roomy");
+    let mut times = HashMap::new();
+    for class in classes {
+        let time = class.measure(work);
+        let [ours, typed, walk, roomy] = time;
+        let pairs: usize = class.cases.iter().map(|c| pairs_of(c)).sum();
+        let cards = class.cases.len();
+        println!(
+            "{:11}  {:5}  {:5}   {:5.2}  {:5.2}  {:5.2}    {ours:8.2} {typed:8.2} {walk:8.2} {roomy:8.2}",
+            class.what,
+            class.bytes() / cards,
+            pairs / cards,
+            ours / typed,
+            ours / walk,
+            ours / roomy
+        );
+        times.insert(class.what.as_str(), time);
+    }
+    let (one_name, typical) = (times["one name"], times["32 KB"]);
+    let [ours, typed, walk, roomy] = [0, 1, 2, 3].map(|way| one_name[way] / typical[way]);
+    println!("one name against 32 KB: ours {ours:.2}, typed {typed:.2}, walk {walk:.2}, roomy {roomy:.2}");
 }

@@ -1,5 +1,5 @@
 //! Writes the cases of the test, one to a line: ROOT CARD WORDS. They are the cards of own.rs and
-//! as many vectors as fit, in their order.
+//! as many vectors as fit, in their order, and last lines that are no cases.
 use std::cmp::Reverse;
 use std::collections::{BTreeMap, HashSet};
 use std::process::ExitCode;
@@ -9,6 +9,23 @@ use yardstick::text::{self, digits, Vector};
 
 /// The most bytes of all cases.
 const ROOM: usize = 1_195_000;
+
+/// Lines that are no cases.
+const NO_CASES: [&str; 13] = [
+    "02000000110 09000000610003000000010061 2048",
+    "020000001100 0900000061000300000001006 2048",
+    "02000000110G 09000000610003000000010061 2048",
+    "020000001100 0900000061000300000001006- 2048",
+    "-- 09000000610003000000010061 2048",
+    "",
+    " 09000000610003000000010061 2048",
+    "020000001100  2048",
+    "020000001100 09000000610003000000010061",
+    "020000001100 09000000610003000000010061 ",
+    "020000001100 09000000610003000000010061 20x8",
+    "020000001100 09000000610003000000010061 2048 0",
+    "020000001100",
+];
 
 /// How many vectors of a refusal are taken, the shortest first.
 fn wanted(number: u32) -> usize {
@@ -83,5 +100,8 @@ fn run(vectors: Vec<Vector>) -> ExitCode {
     }
     eprintln!("{:5}  in all; {left} accepted vectors don't fit", lines.len());
     print!("{}", lines.concat());
+    for line in NO_CASES {
+        println!("{line}");
+    }
     ExitCode::SUCCESS
 }

@@ -1,0 +1,194 @@
+//! Cards for measuring, made: by the number of pairs, one name under many bases, and typical ones by
+//! size.
+use crate::cards::*;
+use std::collections::HashSet;
+
+/// Numbers as if drawn, the same each time.
+struct Draws(u32);
+
+impl Draws {
+    fn below(&mut self, n: usize) -> usize {
+        self.0 = self.0.wrapping_mul(1664525).wrapping_add(1013904223);
+        (self.0 >> 8) as usize % n
+    }
+
+    fn of<'a>(&mut self, all: &[&'a str]) -> &'a str {
+        all[self.below(all.len())]
+    }
+
+    /// So many different names, equally long.
+    fn names(&mut self, count: usize, length: usize) -> Vec<String> {
+        let mut seen = HashSet::new();
+        let mut names = Vec::new();
+        while names.len() < count {
+            let letter = |i| match i % 2 {
+                0 => b"bcdfghklmnprstvw"[self.below(16)] as char,
+                _ => b"aeiou"[self.below(5)] as char,
+            };
+            let name: String = (0..length).map(letter).collect();
+            if seen.insert(name.clone()) {
+                names.push(name);
+            }
+        }
+        names
+    }
+}
+
+/// A module with so many pairs, an even number: constants, each with a type of its own under a base of
+/// its own. A constant's name is one pair, its type another.
+pub fn pairs(count: usize) -> Vec<u8> {
+    let mut draws = Draws(1);
+    let names = draws.names(count, 8);
+    let modules = draws.names(count / 2, 11);
+    let empty_raw = || record(0x40, &[text("")]);
+    let constant = |(i, own): (usize, &[String])| {
+        let crate_name = ["cue_lights", "cue_sounds"][i % 2];
+        constant(&own[0], ty(&format!("::{crate_name}::{}::{}", modules[i], own[1])), empty_raw())
+    };
+    module("m", &names.chunks(2).enumerate().map(constant).collect::<Vec<_>>())
+}
+
+/// One name under so many different bases, equally long.
+pub fn one_name(bases: usize) -> Vec<u8> {
+    let mut draws = Draws(2);
+    let modules = draws.names(bases, 6);
+    let types: Vec<Bytes> = modules.iter().map(|m| ty(&format!("::cues::{m}::Show"))).collect();
+    module("m", &[only_types(&types)])
+}
+
+/// Declarations as a compiler from Dafny to Rust writes them, as many as make this size.
+pub fn typical(size: usize) -> Vec<u8> {
+    let mut writer = Writer { draws: Draws(3), types: Vec::new(), modules: Vec::new() };
+    writer.modules = writer.draws.names(size / 2048 + 2, 9);
+    let mut body = vec![use_decl("::dafny_runtime")];
+    let mut length = module("cue_cards", &body).len();
+    loop {
+        let declaration = writer.declaration();
+        length += declaration.len();
+        if length > size {
+            return module("cue_cards", &body);
+        }
+        body.push(declaration);
+    }
+}
+
+struct Writer {
+    draws: Draws,
+    /// Names of the module's own types.
+    types: Vec<String>,
+    /// Modules beside it.
+    modules: Vec<String>,
+}
+
+impl Writer {
+    fn new_name(&mut self) -> String {
+        let length = 6 + self.draws.below(8);
+        self.draws.names(1, length).remove(0)
+    }
+
+    fn path(&mut self) -> String {
+        const RUNTIME: [&str; 10] = [
+            "DafnyInt",
+            "Sequence",
+            "Object",
+            "DafnyType",
+            "DafnyPrint",
+            "Set",
+            "Map",
+            "DafnyChar",
+            "_System",
+            "Multiset",
+        ];
+        const STD: [&str; 6] =
+            ["rc::Rc", "any::Any", "default::Default", "fmt::Formatter", "fmt::Result", "hash::Hasher"];
+        const BESIDE: [&str; 8] =
+            ["Cue", "Fade", "Light", "Sound", "Option", "Result", "default__", "Channel"];
+        match self.draws.below(8) {
+            0..=2 => format!("::dafny_runtime::{}", self.draws.of(&RUNTIME)),
+            3 => format!("::std::{}", self.draws.of(&STD)),
+            4 | 5 if !self.types.is_empty() => {
+                let i = self.draws.below(self.types.len());
+                format!("crate::cue_cards::{}", self.types[i])
+            }
+            _ => {
+                let i = self.draws.below(self.modules.len());
+                format!("crate::{}::{}", self.modules[i], self.draws.of(&BESIDE))
+            }
+        }
+    }
+
+    fn of_type(&mut self, deep: usize) -> Bytes {
+        match self.draws.below(if deep == 0 { 5 } else { 10 }) {
+            0 | 1 => record(0x20 + self.draws.below(12) as u16, &[]),
+            2 => identifier_type("Self"),
+            3 | 4 => ty(&self.path()),
+            5 | 6 => record(0x2F, &[self.of_type(deep - 1)]),
+            7 => record(0x33, &[list(&[self.of_type(deep - 1), self.of_type(deep - 1)])]),
+            _ => record(0x2E, &[ty(&self.path()), list(&[self.of_type(deep - 1)])]),
+        }
+    }
+
+    fn expr(&mut self, deep: usize) -> Bytes {
+        let name = |w: &mut Self| record(0x42, &[text(w.draws.of(&["self", "i", "cue", "_this", "level"]))]);
+        match self.draws.below(if deep == 0 { 4 } else { 13 }) {
+            0 | 1 => name(self),
+            2 => record(0x4C, &[text("42")]),
+            3 => ex(&self.path()),
+            4 | 5 => {
+                let of = record(0x5D, &[ex(&self.path()), text("read")]);
+                record(0x59, &[of, list(&[self.expr(deep - 1), self.expr(deep - 1)])])
+            }
+            6 => record(0x5A, &[self.expr(deep - 1), text("level")]),
+            7 => record(0x49, &[text("+"), self.expr(deep - 1), self.expr(deep - 1), kept(&[0])]),
+            8 => record(0x51, &[self.expr(deep - 1), self.expr(deep - 1), self.expr(deep - 1)]),
+            9 => {
+                let of = ex(&(self.path() + "!"));
+                record(0x59, &[of, list(&[name(self)])])
+            }
+            _ => {
+                let declared =
+                    [kept(&[1]), text("cue"), list(&[self.of_type(2)]), list(&[self.expr(deep - 1)])];
+                record(0x44, &[record(0x4F, &declared), self.expr(deep - 1)])
+            }
+        }
+    }
+
+    fn function(&mut self) -> Bytes {
+        let name = self.new_name();
+        let formals: Vec<Bytes> =
+            (0..1 + self.draws.below(3)).map(|_| formal("level", self.of_type(2))).collect();
+        let (result, body) = (self.of_type(2), self.expr(4));
+        function(&name, &[], &formals, list(&[result]), list(&[body]))
+    }
+
+    fn declaration(&mut self) -> Bytes {
+        let name = self.new_name();
+        let kind = self.draws.below(8);
+        if kind < 3 {
+            self.types.push(name.clone());
+        }
+        let params = match self.draws.below(3) {
+            0 => vec![param("T", tys(["::dafny_runtime::DafnyType"]))],
+            _ => vec![],
+        };
+        let fields = |w: &mut Self| -> Vec<Bytes> { (0..3).map(|_| w.of_type(2)).collect() };
+        match kind {
+            0 | 1 => structure(&name, &params, named_fields(&fields(self))),
+            2 => {
+                let cases: Vec<Bytes> = (0..2).map(|_| named_fields(&fields(self))).collect();
+                enumeration(&name, &params, &cases)
+            }
+            3 => constant(&name, self.of_type(2), self.expr(2)),
+            4 => top_fn(self.function()),
+            5 => {
+                let of = ty(&self.path());
+                impl_for(&params, of, self.of_type(1), &[fn_member(self.function())])
+            }
+            _ => {
+                let of = ty(&self.path());
+                let members: Vec<Bytes> = (0..3).map(|_| fn_member(self.function())).collect();
+                implementation(&params, of, &members)
+            }
+        }
+    }
+}

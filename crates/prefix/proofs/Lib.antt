@@ -1,3 +1,4 @@
 pub mod Selections
 pub mod Prefixes
 pub mod Nested
+pub mod Long

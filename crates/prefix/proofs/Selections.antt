@@ -19,7 +19,7 @@ use Rattle.prefix.specs.Prefix.{selection, baseOf, isSelection}
 abbrev pub head : ℕ → Bytes
 head n = le 4 n ++ le 2 0x13
 
-selection-length : (base name : Bytes) → length (selection base name) ≡ 6 + (length base + length name)
+pub selection-length : (base name : Bytes) → length (selection base name) ≡ 6 + (length base + length name)
 selection-length base name = record-length 0x13 (base ++ name) ∙ ap (λ (n : ℕ). 6 + n) (length-append base name)
 
 -- a path that is long enough, by its head, its base and its name

@@ -1,7 +1,6 @@
 // Reads cases from standard input, one to a line, ROOT CARD WORDS: the root's and the card's bytes in hexadecimal, - for none, and how many
 // work words are lent. Writes for each what the outermost module collects: its pairs of name and base, the base chosen for each name, and the
 // uses, each on a line, and then how many pairs there are; or the number and place of a refusal.
-use answers::Answer;
 use chains::Want;
 use libc::STDOUT_FILENO;
 use mapping::Collected;
@@ -155,13 +154,6 @@ fn say_all(what: Said, card: &[u8], root: &[u8], chain: &[usize], work: &[u32], 
     }
 }
 
-fn say_refusal(a: Answer) {
-    say_number(answers::number(a));
-    say(b" ");
-    say_number(answers::value(a));
-    say(b"\n");
-}
-
 // The pairs, the choices and the uses of a table, which lies in the first 2048 work words.
 fn say_table(card: &[u8], root: &[u8], work: &[u32], n: usize) {
     if work.len() < 2048 {
@@ -179,7 +171,7 @@ fn say_table(card: &[u8], root: &[u8], work: &[u32], n: usize) {
 // A card's table, or its refusal.
 fn collect(card: &[u8], root: &[u8], work: &mut [u32]) {
     match mapping::outermost(card, root, work) {
-        Collected::Refusal(a) => say_refusal(a),
+        Collected::Refusal(a) => test_input::say_refusal(a),
         Collected::Pairs(n) => say_table(card, root, work, n),
     }
 }

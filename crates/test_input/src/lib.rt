@@ -1,4 +1,5 @@
-// Standard input as the text of cases: room for it, reading it, and what is said of a line that is no case.
+// Standard input as the text of cases: room for it, reading it, and what is said of a line that is no case and of a refusal.
+use answers::Answer;
 use libc::STDERR_FILENO;
 use libc::STDIN_FILENO;
 use libc::STDOUT_FILENO;
@@ -41,4 +42,12 @@ pub fn no_case() {
         STDOUT_FILENO,
         b"no case: write ROOT CARD WORDS, the first two in hexadecimal, - for no bytes\n",
     );
+}
+
+// A refusal: its number and its place.
+pub fn say_refusal(a: Answer) {
+    io::print_decimal(STDOUT_FILENO, answers::number(a) as u64);
+    io::write_all(STDOUT_FILENO, b" ");
+    io::print_decimal(STDOUT_FILENO, answers::value(a) as u64);
+    io::write_all(STDOUT_FILENO, b"\n");
 }

@@ -9,12 +9,7 @@ fn say(v: Verdict) {
         Verdict::Sound => {
             io::write_all(STDOUT_FILENO, b"sound\n");
         }
-        Verdict::Refused(a) => {
-            io::print_decimal(STDOUT_FILENO, answers::number(a) as u64);
-            io::write_all(STDOUT_FILENO, b" ");
-            io::print_decimal(STDOUT_FILENO, answers::value(a) as u64);
-            io::write_all(STDOUT_FILENO, b"\n");
-        }
+        Verdict::Refused(a) => test_input::say_refusal(a),
     }
 }
 

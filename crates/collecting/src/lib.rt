@@ -5,21 +5,10 @@ use operation::Shortening;
 ghost use mathlib.Core.Path.{_≡_};
 ghost use Prim.Native.Nat.{_+_, _≤_};
 ghost use lib.ListN.{length};
-ghost use Rattle.records.specs.Kinds.{kinds, stands};
 ghost use Rattle.factor_paths.specs.Collects.{aType, anExpr, aDecl, holds, visitedAs};
 ghost use Rattle.prefix.specs.Prefix.{scope};
 ghost use Rattle.adding.specs.Adds.{table};
 ghost use Rattle.gathering.specs.Gathers.{IsNode, recordAdded, fieldAdded, partsAdded, wholeAdded, gathered};
-
-// Whether a kind lies from one to another.
-fn stands(from: usize, to: usize, k: usize) -> bool
-    ensures { λ r. ⌜ r ≡ stands (kinds from to) k ⌝ }
-{
-    if k < from {
-        return false;
-    }
-    k <= to
-}
 
 // The fields in the content of a record of kind k.
 fn collect_parts(
@@ -213,13 +202,13 @@ fn collect_record(
         return n;
     }
     let inner = from + 6;
-    if stands(0x20, 0x38, k) {
+    if steps::stands(0x20, 0x38, k) {
         return collect_type(op, card, inner, to, k, left - 1, root, chain, work, n);
     }
-    if stands(0x40, 0x5E, k) {
+    if steps::stands(0x40, 0x5E, k) {
         return collect_expr(op, card, inner, to, k, left - 1, root, chain, work, n);
     }
-    if stands(0x62, 0x6A, k) {
+    if steps::stands(0x62, 0x6A, k) {
         return collect_decl(op, card, inner, to, k, left - 1, root, chain, work, n);
     }
     if k == 2 {

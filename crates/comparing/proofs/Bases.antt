@@ -42,6 +42,16 @@ module _ (s : Scope) (v w : ℕ) where
     unfolding sameBase baseAt
     base-paths t x y r e f g = g ∙ rw (e, f, ne-eqb (v % 65536) 0 a, ne-eqb (w % 65536) 0 b, eq-eqb (v / 65536) (w / 65536) t)
 
+-- whether a path is the base at a place
+module _ (s : Scope) (place : ℕ) (x : Bytes) (r : Bool) where
+  pub is-base-prefix : place ≡ 0 → r ≡ sameBytes x (prefixIn s) → r ≡ samePaths (s .op) (baseAt s place) x
+  unfolding baseAt
+  is-base-prefix a e = upstream-path (s .op) x (prefixIn s) r e ∙ turned (paths-of (s .op)) x (prefixIn s) ∙ rw a
+
+  pub is-base-path : (place ≡ 0 → ⊥) → (y : Bytes) → y ≡ recordAt (s .card) place → r ≡ samePaths (s .op) y x → r ≡ samePaths (s .op) (baseAt s place) x
+  unfolding baseAt
+  is-base-path a y e f = f ∙ ap (λ (z : Bytes). samePaths (s .op) z x) e ∙ rw (ne-eqb place 0 a)
+
 -- a base as a word: its place, and where it is a path its hash
 module _ (op : Shortening) (card : Bytes) where
   pub word-prefix : (p : ℕ) → p ≡ 0 → (0 ≡ baseWord op card p) × (0 < 2 ^ 32)

@@ -4,7 +4,7 @@ ghost use mathlib.Core.Path.{_≡_};
 ghost use Prim.Native.Nat.{_<_, _^_};
 ghost use Rattle.operation.specs.Operations.{operationOf, samePaths};
 ghost use Rattle.prefix.specs.Prefix.{scope};
-ghost use Rattle.comparing.specs.Compares.{hashFrom, hash as Compares·hash, baseWord, sameBase};
+ghost use Rattle.comparing.specs.Compares.{hashFrom, hash as Compares·hash, baseWord, baseAt, sameBase};
 
 // A number under 65536 made of bytes.
 fn hash_bytes(s: &[u8]) -> usize
@@ -54,6 +54,23 @@ pub fn base_word(op: Shortening, card: &[u8], place: u16) -> usize
     }
     let at = place as usize;
     at + 65536 * hash(op, reader::record_at(card, at))
+}
+
+// Whether a path is the base at a place.
+pub fn is_base(
+    op: Shortening,
+    card: &[u8],
+    root: &[u8],
+    chain: &[usize],
+    place: usize,
+    path: &[u8],
+) -> bool
+    ensures { λ r. ⌜ r ≡ samePaths op (baseAt (scope op (now (card .entry)) (now (root .entry)) (now (chain .entry))) place) (now (path .entry)) ⌝ }
+{
+    if place != 0 {
+        return same_path(op, reader::record_at(card, place), path);
+    }
+    prefix::is_prefix(op, path, card, root, chain)
 }
 
 // Whether two words say the same base. The numbers above the places spare most comparisons of bytes.

@@ -12,6 +12,15 @@ pub fn names_again(op: Shortening) -> bool
     ensures { λ r. ⌜ r ≡ operationOf op .namesAgain ⌝ }
 {
     match op {
-        Shortening::Upstream => true,
+        Shortening::Upstream => true, // ReplaceModDecl adds it, and so does PathSimplifier
+    }
+}
+
+// Whether what is around a type in a Fn is counted.
+pub fn walks_again(op: Shortening) -> bool
+    ensures { λ r. ⌜ r ≡ operationOf op .walksAgain ⌝ }
+{
+    match op {
+        Shortening::Upstream => true, // ReplaceFn hands on functions that walk again
     }
 }

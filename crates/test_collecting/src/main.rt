@@ -1,9 +1,10 @@
 // Reads cases from standard input, one to a line, ROOT CARD WORDS: the root's and the card's bytes in hexadecimal, - for none, and how many
 // work words are lent. Writes for each what the outermost module collects: its pairs of name and base, the base chosen for each name, and the
 // uses, each on a line, and then how many pairs there are; or the number and place of a refusal.
+use answers::Answer;
+use answers::Verdict;
 use chains::Want;
 use libc::STDOUT_FILENO;
-use mapping::Collected;
 use operation::Shortening;
 use test_text::Line;
 ghost use Prim.Native.Nat.{_≤_, _<_};
@@ -168,11 +169,33 @@ fn say_table(card: &[u8], root: &[u8], work: &[u32], n: usize) {
     say(b" pairs\n");
 }
 
+// The table of a sound card's outermost module, in the first 2048 of so many words or more.
+fn collect_sound(card: &[u8], root: &[u8], work: &mut [u32]) {
+    if work.len() < 2048 {
+        return;
+    }
+    let chain = [fields::name_place(card, 0)];
+    let n = collecting::collect_module(
+        Shortening::Upstream,
+        card,
+        0,
+        48,
+        root,
+        &chain,
+        &mut work[..2048],
+    );
+    if 512 < n {
+        test_input::say_refusal(Answer::FullTable(0));
+        return;
+    }
+    say_table(card, root, work, n);
+}
+
 // A card's table, or its refusal.
 fn collect(card: &[u8], root: &[u8], work: &mut [u32]) {
-    match mapping::outermost(card, root, work) {
-        Collected::Refusal(a) => test_input::say_refusal(a),
-        Collected::Pairs(n) => say_table(card, root, work, n),
+    match admission::admit(card, root, work.len()) {
+        Verdict::Sound => collect_sound(card, root, work),
+        Verdict::Refused(a) => test_input::say_refusal(a),
     }
 }
 

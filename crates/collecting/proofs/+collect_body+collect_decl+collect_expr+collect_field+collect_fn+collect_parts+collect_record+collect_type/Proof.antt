@@ -39,7 +39,7 @@ use Rattle.collecting.proofs.+collect_body+collect_decl+collect_expr+co
 use Rattle.collecting.proofs.collect_type.Reads as collect-type
 use Rattle.collecting.proofs.collect_type.Kinds as collect-type-kinds
 use Rattle.collecting.proofs.+collect_body+collect_decl+collect_expr+collect_field+collect_fn+collect_parts+collect_record+collect_type.Lts-collect_type as collect-type-lts
-use Rattle.collecting.proofs.stands.Reads as stands-reads
+use Rattle.steps.proofs.stands.Reads as stands-reads
 use Rattle.fields.proofs.is_entered.Reads as is-entered-reads
 use Rattle.reader.proofs.is_short.Reads as is-short-reads
 use Rattle.reader.proofs.record_kind.Reads as record-kind-reads

@@ -1,0 +1,66 @@
+-- What is measured and what is written, test by test. Assumes nothing.
+use mathlib.Core.Path.{_≡_, refl, sym, ap, ap₂, _∙_}
+use mathlib.Core.Bool.{false, cond}
+use mathlib.Core.List.{List, [], _++_}
+use Prim.Native.Nat.{ℕ, _+_, _-_, _<_, _≤_}
+use native.Mathlib.Omega.{arith}
+use lib.ListN.{length, drop}
+use lib.Dec.{ltb}
+use borrow.Author.Tests.{lt-ltb, le-ltb}
+use Rattle.wire.specs.Numbers.{Bytes}
+use Rattle.operation.specs.declared.Shortening.{Shortening}
+use Rattle.adding.specs.Adds.{Table, table}
+use Rattle.laying.specs.Lays.{lay}
+use Rattle.modules.specs.Modules.{Made, cardMade}
+use Rattle.writing.specs.Wrote.{Wrote}
+use Rattle.measuring.specs.declared.Written.the-variants.{Full, Length}
+use Rattle.measuring.specs.Measured.{Output, output, measured, written, wholeOutput}
+
+-- nothing is laid over no bytes
+none-laid : (b : Bytes) → lay [] 0 b ≡ []
+unfolding lay
+none-laid b = refl
+
+module _ (op : Shortening) (card root : Bytes) (words : List ℕ) (out part : Bytes) (words₁ : List ℕ) (len full owner pairs : ℕ)
+    (w : Wrote [] part words₁ len full owner pairs (cardMade op card root 65537 (table 0 words))) where
+  -- out comes back as it was
+  pub same-out : part ++ drop 0 out ≡ out
+  same-out = ap (λ (x : Bytes). x ++ out) (w .laid ∙ none-laid _)
+
+  is-full : full ≡ measured op card root words .full
+  unfolding measured
+  is-full = w .full-is
+
+  is-length : len ≡ length (measured op card root words .bytes)
+  unfolding measured
+  is-length = w .length-is
+
+  is-words : words₁ ≡ measured op card root words .held .words
+  unfolding measured
+  is-words = ap (λ (t : Table). t .words) (w .held-is)
+
+  again : cardMade op card root owner (table pairs words₁) ≡ written op card root words
+  unfolding written measured
+  again = ap₂ (cardMade op card root) (w .owner-is) (w .held-is)
+
+  pub full-gives : 0 < full → output (Full (full - 1)) (part ++ drop 0 out) words₁ ≡ wholeOutput op card root words out
+  unfolding wholeOutput
+  full-gives h = rw (same-out, is-words, is-full) (rw (lt-ltb 0 (measured op card root words .full) (rw is-full at h)))
+
+  module _ (z : full ≤ 0) where
+    none-full : ltb 0 (measured op card root words .full) ≡ false
+    none-full = le-ltb 0 (measured op card root words .full) (rw is-full at z)
+
+    pub no-room-gives : length (part ++ drop 0 out) < len → output (Length len) (part ++ drop 0 out) words₁ ≡ wholeOutput op card root words out
+    unfolding wholeOutput
+    no-room-gives h =
+        rw (same-out, is-words, is-length)
+        (rw (none-full, lt-ltb (length out) (length (measured op card root words .bytes)) (rw (same-out, is-length) at h)))
+
+    pub room-gives : len ≤ length (part ++ drop 0 out) → (after : Bytes) (words₂ : List ℕ) (len₂ full₂ owner₂ pairs₂ : ℕ)
+        → Wrote (part ++ drop 0 out) after words₂ len₂ full₂ owner₂ pairs₂ (cardMade op card root owner (table pairs words₁))
+        → output (Length len) after words₂ ≡ wholeOutput op card root words out
+    unfolding wholeOutput
+    room-gives h after words₂ len₂ full₂ owner₂ pairs₂ x =
+        rw (x .laid, same-out, ap (λ (t : Table). t .words) (x .held-is), again, is-length)
+        (rw (none-full, le-ltb (length out) (length (measured op card root words .bytes)) (rw (same-out, is-length) at h)))

@@ -1,0 +1,102 @@
+-- The bytes of a Mod: what stands ahead of its body, where its declarations start, and the Mod put together again. Assumes nothing.
+use mathlib.Core.Path.{_≡_, refl, ap, sym, _∙_}
+use mathlib.Core.List.{[], _++_, append-assoc, append-nil}
+use Prim.Native.Nat.{ℕ, _+_, _-_}
+use native.Mathlib.Omega.{arith}
+use lib.ListN.{length, take, length-append}
+use lib.Seq.{take-at}
+use Rattle.wire.specs.Numbers.{Bytes, between}
+use Rattle.records.specs.Record.{Record, Records, node, nil, _▸_, _▸▸_, recordBytes, encode, encodeAll, kindOf, contentOf, restOf, kind, first, skip}
+use Rattle.records.specs.Canonical.{Canonical}
+use Rattle.records.proofs.Tree.{record-length}
+use Rattle.records.proofs.Front.{inside, encode-kind, encode-content, encode-rest}
+use Rattle.records.proofs.Starts.{Starts, AllStart, starts-there, content-start, first-starts, skip-start}
+use Rattle.modules.specs.Modules.{bodyIn, aheadIn}
+
+-- a record's bytes alone, where it starts and ends
+pub span-there : {s : Bytes} {o : ℕ} {r : Record} → Starts s o r → between s o (o + length (encode r)) ≡ encode r
+span-there {s} {o} {r} p = let e : o + length (encode r) - o ≡ length (encode r) = omega arith in rw e (starts-there p)
+
+pub alone-kind : (r : Record) → Canonical r → kindOf (encode r) ≡ kind r
+alone-kind r h = ap kindOf (sym (append-nil (encode r))) ∙ encode-kind r [] h
+
+alone-content : (r : Record) → Canonical r → contentOf (encode r) ≡ inside r
+alone-content r h = ap contentOf (sym (append-nil (encode r))) ∙ encode-content r [] h
+
+encode-append : (b c : Records) → encodeAll (b ▸▸ c) ≡ encodeAll b ++ encodeAll c
+unfolding encodeAll _▸▸_
+encode-append nil c = refl
+encode-append (r ▸ b) c = ap (λ (x : Bytes). encode r ++ x) (encode-append b c) ∙ sym (append-assoc (encode r) (encodeAll b) (encodeAll c))
+
+-- a record that holds one
+pub holds-one : (k : ℕ) (r : Record) → recordBytes k (encode r) ≡ encode (node k (r ▸ nil))
+unfolding encode
+holds-one k r = rw append-nil
+
+pub one-ends : (k : ℕ) (r : Record) (from : ℕ) → from + length (encode (node k (r ▸ nil))) ≡ from + 6 + length (encode r)
+one-ends k r from =
+    let a : length (encode (node k (r ▸ nil))) ≡ length (recordBytes k (encode r)) = sym (ap length (holds-one k r)) in
+    let b = record-length k (encode r) in
+    omega arith
+
+module _ (d a n : Record) (c : Records) where
+  abbrev pub Mod : Record
+  Mod = node 0x60 (d ▸ a ▸ n ▸ node 0x02 c ▸ nil)
+
+  abbrev pub Ahead : Bytes
+  Ahead = encodeAll (d ▸ a ▸ n ▸ nil)
+
+  split : encodeAll (d ▸ a ▸ n ▸ node 0x02 c ▸ nil) ≡ Ahead ++ encode (node 0x02 c)
+  unfolding encodeAll
+  split = simp (append-assoc, append-nil)
+
+  split-length : length (encodeAll (d ▸ a ▸ n ▸ node 0x02 c ▸ nil)) ≡ length Ahead + (6 + length (encodeAll c))
+  unfolding encode
+  split-length =
+      let b = length-append Ahead (encode (node 0x02 c)) in
+      let e = record-length 0x02 (encodeAll c) in
+      ap length split ∙ omega arith
+
+  module _ (h : Canonical Mod) where
+    pub mod-content : contentOf (encode Mod) ≡ encodeAll (d ▸ a ▸ n ▸ node 0x02 c ▸ nil)
+    mod-content = alone-content Mod h
+
+    body-is : bodyIn (encodeAll (d ▸ a ▸ n ▸ node 0x02 c ▸ nil)) ≡ encode (node 0x02 c)
+    unfolding encodeAll Canonical
+    body-is =
+        ap (λ (x : Bytes). restOf (restOf x)) (encode-rest d (encodeAll (a ▸ n ▸ node 0x02 c ▸ nil)) (h .3 .0))
+        ∙ ap restOf (encode-rest a (encodeAll (n ▸ node 0x02 c ▸ nil)) (h .3 .1 .0))
+        ∙ encode-rest n (encodeAll (node 0x02 c ▸ nil)) (h .3 .1 .1 .0)
+        ∙ append-nil (encode (node 0x02 c))
+
+    pub ahead-is : aheadIn (encodeAll (d ▸ a ▸ n ▸ node 0x02 c ▸ nil)) ≡ Ahead
+    ahead-is =
+        let all = encodeAll (d ▸ a ▸ n ▸ node 0x02 c ▸ nil) in
+        let b = encode (node 0x02 c) in
+        let e : length all ≡ length Ahead + length b = ap length split ∙ length-append Ahead b in
+        rw body-is (ap (take (length all - length b)) split ∙ take-at Ahead b (length all - length b) (omega arith))
+
+  -- where the body's declarations start and end
+  pub body-ends : (at : ℕ) → at + length (encode Mod) ≡ at + 6 + length Ahead + 6 + length (encodeAll c)
+  unfolding encode
+  body-ends at =
+      let l = split-length in
+      let r = record-length 0x60 (encodeAll (d ▸ a ▸ n ▸ node 0x02 c ▸ nil)) in
+      omega arith
+
+  pub body-starts : {s : Bytes} {at : ℕ} → Starts s at Mod → AllStart s (at + 6 + length Ahead + 6) c
+  unfolding first skip
+  body-starts st = content-start (first-starts (skip-start 3 (d ▸ a ▸ n ▸ node 0x02 c ▸ nil) (content-start st)))
+
+node-whole : (k : ℕ) (x : Bytes) (r : Records) → encodeAll r ≡ x → recordBytes k x ≡ encode (node k r)
+unfolding encode
+node-whole k x r e = ap (recordBytes k) (sym e)
+
+-- a Mod of what stands ahead, uses and declarations
+pub mod-whole : (d a n : Record) (b c : Records)
+    → recordBytes 0x60 (encodeAll (d ▸ a ▸ n ▸ nil) ++ recordBytes 0x02 (encodeAll b ++ encodeAll c)) ≡ encode (Mod d a n (b ▸▸ c))
+mod-whole d a n b c =
+    let ahead = encodeAll (d ▸ a ▸ n ▸ nil) in
+    let body = recordBytes 0x02 (encodeAll b ++ encodeAll c) in
+    let e : body ≡ encode (node 0x02 (b ▸▸ c)) = node-whole 0x02 (encodeAll b ++ encodeAll c) (b ▸▸ c) (encode-append b c) in
+    node-whole 0x60 (ahead ++ body) (d ▸ a ▸ n ▸ node 0x02 (b ▸▸ c) ▸ nil) (split d a n (b ▸▸ c) ∙ ap (λ (x : Bytes). ahead ++ x) (sym e))

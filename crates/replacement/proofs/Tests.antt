@@ -1,0 +1,80 @@
+-- Whether a path is replaced, test by test. Assumes nothing.
+use mathlib.Core.Path.{_≡_, sym, ap, _∙_}
+use mathlib.Core.List.{List}
+use mathlib.Core.Bool.{Bool, true, false, _&&_}
+use Prim.Native.Nat.{ℕ, _+_, _-_, _*_, _%_, _<_}
+use native.Mathlib.Omega.{arith}
+use lib.ListN.{length, take, getD}
+use borrow.Author.Tests.{eq-eqb, ne-eqb, lt-ltb, le-ltb}
+use Rattle.wire.specs.Numbers.{Bytes}
+use Rattle.wire.proofs.Less.{at-least-one}
+use Rattle.records.specs.Record.{kindOf, contentOf, restOf, firstRecord}
+use Rattle.factor_paths.specs.PathsVisitor.{marked, unmarked}
+use Rattle.operation.specs.Operations.{samePaths}
+use Rattle.prefix.specs.Prefix.{Scope}
+use Rattle.comparing.specs.Compares.{baseAt}
+use Rattle.choosing.specs.Chooses.{chosenPair}
+use Rattle.rewriting.specs.Replaces.{nameIn, baseIn, replaces, replacesType, replacesExpr}
+
+-- parts of parts
+pub name-is : (r c p t n : Bytes) → c ≡ contentOf r → p ≡ contentOf c → t ≡ restOf p → n ≡ contentOf t → n ≡ nameIn r
+name-is r c p t n e f g h = h ∙ ap contentOf (g ∙ ap restOf (f ∙ ap contentOf e))
+
+pub base-is : (r c p b : Bytes) → c ≡ contentOf r → p ≡ contentOf c → b ≡ firstRecord p → b ≡ baseIn r
+base-is r c p b e f g = g ∙ ap firstRecord (f ∙ ap contentOf e)
+
+module _ (s : Scope) (words : List ℕ) where
+  module _ (name base : Bytes) (g : ℕ) (e : g ≡ chosenPair s words name) where
+    pub replaces-none : g ≡ 0 → false ≡ replaces s words name base
+    unfolding replaces
+    replaces-none z = rw (← e, eq-eqb g 0 z)
+
+    pub replaces-pair : (g ≡ 0 → ⊥) → (w : ℕ) → w ≡ getD words (4 * (g - 1) + 2) 0 → (r : Bool) → r ≡ samePaths (s .op) (baseAt s (w % 65536)) base
+        → r ≡ replaces s words name base
+    unfolding replaces
+    replaces-pair z w f r h = h ∙ rw (f, ← e, ne-eqb g 0 z)
+
+  module _ (r c : Bytes) (k : ℕ) (e : c ≡ contentOf r) (f : k ≡ kindOf c) where
+    kind-is : kindOf (contentOf r) ≡ k
+    kind-is = sym (f ∙ ap kindOf e)
+
+    pub type-other : (k ≡ 0x13 → ⊥) → false ≡ replacesType s words r
+    unfolding replacesType
+    type-other n = rw (kind-is, ne-eqb k 0x13 n)
+
+    pub expr-other : (k ≡ 0x13 → ⊥) → false ≡ replacesExpr s words r
+    unfolding replacesExpr
+    expr-other n = rw (kind-is, ne-eqb k 0x13 n)
+
+    module _ (h : k ≡ 0x13) (name base : Bytes) (n : name ≡ nameIn r) (b : base ≡ baseIn r) (y : Bool) (g : y ≡ replaces s words name base) where
+      whole : replaces s words (nameIn r) (baseIn r) ≡ y
+      whole = sym (g ∙ rw (n, b))
+
+      pub type-is : y ≡ replacesType s words r
+      unfolding replacesType
+      type-is = rw (kind-is, eq-eqb k 0x13 h, whole)
+
+      -- the whole name
+      pub expr-whole : y ≡ true → true ≡ replacesExpr s words r
+      unfolding replacesExpr
+      expr-whole t = rw (kind-is, eq-eqb k 0x13 h, whole, t)
+
+      module _ (t : y ≡ false) where
+        of-mark : replacesExpr s words r ≡ (marked name && replaces s words (unmarked name) base)
+        unfolding replacesExpr
+        of-mark = rw (kind-is, eq-eqb k 0x13 h, whole, t, n, b)
+
+        pub expr-empty : length name ≡ 0 → false ≡ replacesExpr s words r
+        expr-empty z = sym (of-mark ∙ rw (le-ltb 0 (length name) (omega arith)))
+
+        module _ (z : length name ≡ 0 → ⊥) where
+          filled : 0 < length name
+          filled = let o = at-least-one (length name) z in omega arith
+
+          pub expr-plain : (getD name (length name - 1) 0 ≡ 33 → ⊥) → false ≡ replacesExpr s words r
+          expr-plain m = sym (of-mark ∙ rw (lt-ltb 0 (length name) filled, ne-eqb (getD name (length name - 1) 0) 33 m))
+
+          -- the name without its mark
+          pub expr-marked : getD name (length name - 1) 0 ≡ 33 → (x : Bool) → x ≡ replaces s words (take (length name - 1) name) base
+              → x ≡ replacesExpr s words r
+          expr-marked m x q = q ∙ sym (of-mark ∙ rw (lt-ltb 0 (length name) filled, eq-eqb (getD name (length name - 1) 0) 33 m))

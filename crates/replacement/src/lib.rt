@@ -1,0 +1,89 @@
+// Whether a path is replaced: whether the base chosen for its name, by the module's table, is its own.
+use operation::Shortening;
+ghost use mathlib.Core.Path.{_≡_};
+ghost use Rattle.prefix.specs.Prefix.{scope};
+ghost use Rattle.rewriting.specs.Replaces.{nameIn, baseIn, replaces as Replaces·replaces, replacesType, replacesExpr};
+
+// id in replacement && replacement[id] == base
+fn replaces(
+    op: Shortening,
+    card: &[u8],
+    root: &[u8],
+    chain: &[usize],
+    work: &[u32],
+    name: &[u8],
+    base: &[u8],
+) -> bool
+    ensures { λ r. ⌜ r ≡ Replaces·replaces (scope op (now (card .entry)) (now (root .entry)) (now (chain .entry)))
+        (now (work .entry)) (now (name .entry)) (now (base .entry)) ⌝ }
+{
+    let g = choosing::chosen(op, card, root, chain, work, name);
+    if g == 0 {
+        return false;
+    }
+    let m = 4 * (g - 1) + 2;
+    comparing::is_base(op, card, root, chain, wire::word(work[m]) % 65536, base)
+}
+
+// The name that the path of a TypeFromPath or an ExprFromPath ends in.
+pub fn name_in(r: &[u8]) -> &[u8]
+    ensures { λ s. ⌜ now s ≡ nameIn (now (r .entry)) ⌝ }
+{
+    let p = reader::content(reader::content(r));
+    reader::content(reader::rest(p))
+}
+
+// The path that it is selected from.
+fn base_in(r: &[u8]) -> &[u8]
+    ensures { λ s. ⌜ now s ≡ baseIn (now (r .entry)) ⌝ }
+{
+    let p = reader::content(reader::content(r));
+    reader::record(p)
+}
+
+// ReplaceTypeSingle: a TypeFromPath.
+pub fn replaces_type(
+    op: Shortening,
+    card: &[u8],
+    root: &[u8],
+    chain: &[usize],
+    work: &[u32],
+    r: &[u8],
+) -> bool
+    ensures { λ y. ⌜ y ≡ replacesType (scope op (now (card .entry)) (now (root .entry)) (now (chain .entry))) (now (work .entry)) (now (r .entry)) ⌝ }
+{
+    if reader::record_kind(reader::content(r)) != 0x13 {
+        return false;
+    }
+    replaces(op, card, root, chain, work, name_in(r), base_in(r))
+}
+
+// ReplaceExprSingle: an ExprFromPath. The whole name is tried first, then the name without its mark.
+pub fn replaces_expr(
+    op: Shortening,
+    card: &[u8],
+    root: &[u8],
+    chain: &[usize],
+    work: &[u32],
+    r: &[u8],
+) -> bool
+    ensures { λ y. ⌜ y ≡ replacesExpr (scope op (now (card .entry)) (now (root .entry)) (now (chain .entry))) (now (work .entry)) (now (r .entry)) ⌝ }
+{
+    if reader::record_kind(reader::content(r)) != 0x13 {
+        return false;
+    }
+    let name = name_in(r);
+    let base = base_in(r);
+    if replaces(op, card, root, chain, work, name, base) {
+        return true;
+    }
+    let n = name.len();
+    if n == 0 {
+        return false;
+    }
+    let last = n - 1;
+    if name[last] != b'!' {
+        return false;
+    }
+    replaces(op, card, root, chain, work, &name[..last], base)
+}

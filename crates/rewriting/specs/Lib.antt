@@ -1,0 +1,4 @@
+pub mod Imports
+pub mod Replaces
+pub mod Rewrites
+pub mod Shorts

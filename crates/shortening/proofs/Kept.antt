@@ -1,0 +1,113 @@
+-- The promise, by what admission and measuring say. Assumes nothing.
+use mathlib.Core.Path.{_≡_, refl, sym, ap, _∙_}
+use mathlib.Core.Bool.{cond}
+use mathlib.Core.List.{List, _++_}
+use mathlib.Core.Option.{Option, none, some}
+use Prim.Native.Nat.{ℕ, _+_, _/_, _<_, _≤_, min}
+use native.Mathlib.Omega.{arith}
+use lib.ListN.{length, take, drop, getD, replicate, length-take, length-drop, length-append}
+use lib.Dec.{ltb}
+use borrow.Author.Tests.{ltb-false, lt-ltb, le-ltb}
+use Rattle.answers.specs.declared.Answer.{Answer}
+use Rattle.answers.specs.declared.Answer.the-variants.{Shortened, FullTable, NoSpace}
+use Rattle.answers.specs.declared.Verdict.{Verdict}
+use Rattle.answers.specs.declared.Verdict.the-variants.{Sound, Refused}
+use Rattle.wire.specs.Numbers.{Bytes}
+use Rattle.wire.proofs.Numbers.{are-bytes}
+use Rattle.rast.specs.Path.{whether}
+use Rattle.rast.specs.Operation.{upstream}
+use Rattle.rast.proofs.Tests.{by-test}
+use Rattle.outcome.specs.Outcome.{Outcome, admitted, shorten}
+use Rattle.outcome.proofs.Accepted.{admitted-sound}
+use Rattle.points.specs.Points.{NamesHold}
+use Rattle.points.proofs.Demand.{demand-3}
+use Rattle.operation.specs.declared.Shortening.the-variants.{Upstream}
+use Rattle.chains.specs.Chains.{room}
+use Rattle.measuring.specs.declared.Written.{Written}
+use Rattle.measuring.specs.declared.Written.the-variants.{Full, Length}
+use Rattle.measuring.specs.Measured.{Output, output, wholeOutput}
+use Rattle.measuring.proofs.Sound.{FullAt, Bytes′, OutAfter, Result, whole-sound}
+use Rattle.shortening.specs.Shortened.{answerOf, outcome, Promise}
+
+-- an outcome that is the definition's keeps the promise
+promised : (card root out : Bytes) (work : List ℕ) (a : Answer) (out′ : Bytes) (work′ : List ℕ) → ((i : ℕ) → getD card i 0 < 256) →
+    ((i : ℕ) → getD root i 0 < 256)
+    → outcome a out′ work′ ≡ shorten upstream card root out work → Promise card root out work a out′ work′
+promised card root out work a out′ work′ bc br e =
+    record {
+      fixed = e;
+      names = λ n h. rw (← ap (λ (o : Outcome). o .out) e) at
+          (demand-3 card root out work n (are-bytes card bc) (are-bytes root br) (ap (λ (o : Outcome). o .answer) (sym e) ∙ h));
+    }
+
+module _ (card root out : Bytes) (work : List ℕ) (bc : (i : ℕ) → getD card i 0 < 256) (br : (i : ℕ) → getD root i 0 < 256)
+    (v : Verdict) (e : v ≡ admitted upstream card root (length work)) where
+  pub refused : (a : Answer) → v ≡ Refused a → Promise card root out work a out work
+  unfolding shorten
+  refused a h = promised card root out work a out work bc br (rw (← e, h))
+
+  module _ (h : v ≡ Sound) where
+    is-sound : admitted upstream card root (length work) ≡ Sound
+    is-sound = sym e ∙ h
+
+    pub enough : 2048 ≤ length work
+    enough = admitted-sound upstream card root (length work) is-sound .enough
+
+    pub lent : 2048 ≡ length (take 2048 work)
+    lent = let a = length-take 2048 work in let b = enough in omega arith
+
+    most : room (take 2048 work) ≡ 512
+    most = ap (λ (n : ℕ). min (n / 4) 65535) (sym lent)
+
+    module _ (w : Written) (out′ : Bytes) (words : List ℕ) (o : output w out′ words ≡ wholeOutput Upstream card root (take 2048 work) out) where
+      result : Result Upstream card root (length work) is-sound bc br (take 2048 work) out (output w out′ words)
+      result = rw o (whole-sound Upstream card root (length work) is-sound bc br (take 2048 work) most out)
+
+      words-all : length (words ++ drop 2048 work) ≡ length work
+      words-all =
+          let a = result .words-long in
+          let b = length-append words (drop 2048 work) in
+          let c = length-drop 2048 work in
+          let d = enough in
+          let f = lent in
+          omega arith
+
+      abbrev Whole : Bytes
+      Whole = Bytes′ Upstream card root (length work) is-sound bc br
+
+      abbrev Place : Option ℕ
+      Place = FullAt Upstream card root (length work) is-sound bc br
+
+      answer-is : (x : Option ℕ) → Place ≡ x → w ≡ whether x (Length (length Whole)) Full
+      answer-is x q = result .answer-is ∙ ap (λ (y : Option ℕ). whether y (Length (length Whole)) Full) q
+
+      out-is : (x : Option ℕ) → Place ≡ x → out′ ≡ whether x (cond (ltb (length out) (length Whole)) out (Whole ++ drop (length Whole) out)) (λ place. out)
+      out-is x q = result .out-is ∙ ap (λ (y : Option ℕ). whether y (cond (ltb (length out) (length Whole)) out (Whole ++ drop (length Whole) out))
+          (λ place. out)) q
+
+      room-same : length Whole ≤ length out → length (Whole ++ drop (length Whole) out) ≡ length out
+      room-same l = let a = length-append Whole (drop (length Whole) out) in let b = length-drop (length Whole) out in omega arith
+
+      is-outcome : (x : Option ℕ) → Place ≡ x → outcome (answerOf w (length out′)) out′ (replicate (length work) 0) ≡ shorten upstream card root out work
+      unfolding shorten
+      is-outcome none q =
+          rw (out-is none q, answer-is none q, is-sound, q)
+          (by-test (ltb (length out) (length Whole)) (λ t. rw (t, t))
+          (λ t. rw (t, room-same (ltb-false (length out) (length Whole) t), t)))
+      is-outcome (some place) q = rw (out-is (some place) q, answer-is (some place) q, is-sound, q)
+
+      pub kept : (work′ : List ℕ) → work′ ≡ replicate (length (words ++ drop 2048 work)) 0 → (a : Answer) → a ≡ answerOf w (length out′)
+          → Promise card root out work a out′ work′
+      kept work′ z a f =
+          promised card root out work a out′ work′ bc br
+          (rw (f, z ∙ ap (λ (n : ℕ). replicate n 0) words-all) (is-outcome Place refl))
+
+-- the answer, case by case
+pub answer-full : (w : Written) (place lent : ℕ) → w ≡ Full place → FullTable place ≡ answerOf w lent
+answer-full w place lent h = rw h
+
+pub answer-no-space : (w : Written) (n lent : ℕ) → w ≡ Length n → lent < n → NoSpace ≡ answerOf w lent
+answer-no-space w n lent h l = rw h (rw (lt-ltb lent n l))
+
+pub answer-room : (w : Written) (n lent : ℕ) → w ≡ Length n → n ≤ lent → Shortened n ≡ answerOf w lent
+answer-room w n lent h l = rw h (rw (le-ltb lent n l))

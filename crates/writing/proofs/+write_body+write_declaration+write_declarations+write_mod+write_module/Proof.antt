@@ -1,0 +1,1381 @@
+-- The ring of `writing` meets its contracts: the laws of Ring at each member. Assumes nothing.
+use mathlib.Core.Path.{_≡_, refl, sym, ap, _∙_}
+use mathlib.Core.List.{[], _∷_}
+use Prim.Native.Nat.{ℕ, _+_, _*_, _-_, _<_, _≤_, min}
+use native.Mathlib.Omega.{arith}
+use lib.ListN.{length, length-append}
+use borrow.Author.Needs.{needs}
+use Rattle.records.specs.Record.{lengthOf, contentOf}
+use Rattle.wire.specs.Numbers.{between}
+use Rattle.prefix.specs.Prefix.{scope}
+use Rattle.adding.specs.Adds.{table}
+use Rattle.gathering.specs.Gathers.{span, spansIn}
+use Rattle.modules.specs.Modules.{made, declarationMade, eachMade, bodyMade, moduleMade, aheadIn}
+use Rattle.modules.proofs.Bound.{module-bound, declaration-bound, declarations-bound, body-bound, imports-bound}
+use Rattle.writing.proofs.Pieces.{nested-gives, other-gives, body-gives, body-inside, ahead-is, ahead-long, mod-all}
+use Rattle.writing.proofs.Going.{Going, going-none, going-long, going-short, going-end, next-fits, going-next}
+use Rattle.writing.proofs.Tests.{module-shallow, module-other, module-full, module-mod, names-fit}
+use Rattle.writing.proofs.Tests.{within-inner, within-part, within-zero, content-small, fits-room, inside-card}
+use borrow.Fn.Kinds.{In}
+use borrow.Fn.PlainCycle.{Measures, is, falls, and}
+use Rattle.writing.proofs.write_body.Reads as write-body
+use Rattle.writing.proofs.write_body.Kinds as write-body-kinds
+use Rattle.writing.proofs.+write_body+write_declaration+write_declarations+write_mod+write_module.Lts-write_body as write-body-lts
+use Rattle.writing.proofs.write_declaration.Reads as write-declaration
+use Rattle.writing.proofs.write_declaration.Kinds as write-declaration-kinds
+use Rattle.writing.proofs.+write_body+write_declaration+write_declarations+write_mod+write_module.Lts-write_declaration as write-declaration-lts
+use Rattle.writing.proofs.write_declarations.Reads as write-declarations
+use Rattle.writing.proofs.write_declarations.Kinds as write-declarations-kinds
+use Rattle.writing.proofs.+write_body+write_declaration+write_declarations+write_mod+write_module.Lts-write_declarations as write-declarations-lts
+use Rattle.writing.proofs.write_mod.Reads as write-mod
+use Rattle.writing.proofs.write_mod.Kinds as write-mod-kinds
+use Rattle.writing.proofs.+write_body+write_declaration+write_declarations+write_mod+write_module.Lts-write_mod as write-mod-lts
+use Rattle.writing.proofs.write_module.Reads as write-module
+use Rattle.writing.proofs.write_module.Kinds as write-module-kinds
+use Rattle.writing.proofs.+write_body+write_declaration+write_declarations+write_mod+write_module.Lts-write_module as write-module-lts
+use Rattle.chains.proofs.room.Reads as room-reads
+use Rattle.fields.proofs.name_place.Reads as name-place-reads
+use Rattle.importing.proofs.write_imports.Reads as write-imports-reads
+use Rattle.laying.proofs.lay.Reads as lay-reads
+use Rattle.laying.proofs.lay_head.Reads as lay-head-reads
+use Rattle.laying.proofs.least.Reads as least-reads
+use Rattle.reader.proofs.content.Reads as content-reads
+use Rattle.reader.proofs.is_short.Reads as is-short-reads
+use Rattle.reader.proofs.record_kind.Reads as record-kind-reads
+use Rattle.reader.proofs.record_length.Reads as record-length-reads
+use Rattle.reader.proofs.rest.Reads as rest-reads
+use Rattle.replacing.proofs.replace.Reads as replace-reads
+use Rattle.tables.proofs.table_of.Reads as table-of-reads
+use Rattle.wire.proofs.part.Reads as part-reads
+use Rattle.writing.proofs.extended.Reads as extended-reads
+use Rattle.writing.proofs.first_full.Reads as first-full-reads
+use Rattle.writing.proofs.+write_body+write_declaration+write_declarations+write_mod+write_module.{
+  statement,
+}
+use Rattle.writing.proofs.+write_body+write_declaration+write_declarations+write_mod+write_module.Tie.{
+  close,
+}
+
+abbrev μ-write-body : Measures 5 write-body-kinds.ps ℕ
+μ-write-body κs a = 5 * a .1 .1 .1 .1 .1 .0 + 2
+
+abbrev μ-write-declaration : Measures 5 write-declaration-kinds.ps ℕ
+μ-write-declaration κs a = 5 * a .1 .1 .1 .1 .1 .0
+
+abbrev μ-write-declarations : Measures 5 write-declarations-kinds.ps ℕ
+μ-write-declarations κs a = 5 * a .1 .1 .1 .1 .1 .0 + 1
+
+abbrev μ-write-mod : Measures 5 write-mod-kinds.ps ℕ
+μ-write-mod κs a = 5 * a .1 .1 .1 .1 .0 + 3
+
+abbrev μ-write-module : Measures 5 write-module-kinds.ps ℕ
+μ-write-module κs a = 5 * a .1 .1 .1 .1 .0 + 4
+
+abbrev write-body-at : ℕ → In 5 write-body-kinds.ps
+write-body-at t =
+    and 5 write-body-kinds.ps (is 5 write-body-kinds.ps μ-write-body t) write-body.Pre
+
+abbrev write-body-below : ℕ → In 5 write-body-kinds.ps
+write-body-below t =
+    and 5 write-body-kinds.ps (falls 5 write-body-kinds.ps _<_ μ-write-body t) write-body.Pre
+
+abbrev write-declaration-at : ℕ → In 5 write-declaration-kinds.ps
+write-declaration-at t =
+    and
+    5
+    write-declaration-kinds.ps
+    (is 5 write-declaration-kinds.ps μ-write-declaration t)
+    write-declaration.Pre
+
+abbrev write-declaration-below : ℕ → In 5 write-declaration-kinds.ps
+write-declaration-below t =
+    and
+    5
+    write-declaration-kinds.ps
+    (falls 5 write-declaration-kinds.ps _<_ μ-write-declaration t)
+    write-declaration.Pre
+
+abbrev write-declarations-at : ℕ → In 5 write-declarations-kinds.ps
+write-declarations-at t =
+    and
+    5
+    write-declarations-kinds.ps
+    (is 5 write-declarations-kinds.ps μ-write-declarations t)
+    write-declarations.Pre
+
+abbrev write-declarations-below : ℕ → In 5 write-declarations-kinds.ps
+write-declarations-below t =
+    and
+    5
+    write-declarations-kinds.ps
+    (falls 5 write-declarations-kinds.ps _<_ μ-write-declarations t)
+    write-declarations.Pre
+
+abbrev write-mod-at : ℕ → In 5 write-mod-kinds.ps
+write-mod-at t = and 5 write-mod-kinds.ps (is 5 write-mod-kinds.ps μ-write-mod t) write-mod.Pre
+
+abbrev write-mod-below : ℕ → In 5 write-mod-kinds.ps
+write-mod-below t =
+    and 5 write-mod-kinds.ps (falls 5 write-mod-kinds.ps _<_ μ-write-mod t) write-mod.Pre
+
+abbrev write-module-at : ℕ → In 5 write-module-kinds.ps
+write-module-at t =
+    and 5 write-module-kinds.ps (is 5 write-module-kinds.ps μ-write-module t) write-module.Pre
+
+abbrev write-module-below : ℕ → In 5 write-module-kinds.ps
+write-module-below t =
+    and
+    5
+    write-module-kinds.ps
+    (falls 5 write-module-kinds.ps _<_ μ-write-module t)
+    write-module.Pre
+
+abbrev write-body-calls : ℕ → write-body-lts.Claims
+write-body-calls t = (
+  least-reads.Asked,
+  least-reads.Learnt,
+  write-imports-reads.Asked,
+  write-imports-reads.Learnt,
+  write-declarations-below t,
+  write-declarations.Post,
+  lay-head-reads.Asked,
+  lay-head-reads.Learnt,
+)
+
+abbrev write-declaration-calls : ℕ → write-declaration-lts.Claims
+write-declaration-calls t = (
+  part-reads.Asked,
+  part-reads.Learnt,
+  record-kind-reads.Asked,
+  record-kind-reads.Learnt,
+  least-reads.Asked,
+  least-reads.Learnt,
+  write-module-below t,
+  write-module.Post,
+  lay-head-reads.Asked,
+  lay-head-reads.Learnt,
+  table-of-reads.Asked,
+  table-of-reads.Learnt,
+  replace-reads.Asked,
+  replace-reads.Learnt,
+)
+
+abbrev write-declarations-calls : ℕ → write-declarations-lts.Claims
+write-declarations-calls t = (
+  part-reads.Asked,
+  part-reads.Learnt,
+  is-short-reads.Asked,
+  is-short-reads.Learnt,
+  record-length-reads.Asked,
+  record-length-reads.Learnt,
+  least-reads.Asked,
+  least-reads.Learnt,
+  write-declaration-below t,
+  write-declaration.Post,
+  first-full-reads.Asked,
+  first-full-reads.Learnt,
+)
+
+abbrev write-mod-calls : ℕ → write-mod-lts.Claims
+write-mod-calls t = (
+  part-reads.Asked,
+  part-reads.Learnt,
+  content-reads.Asked,
+  content-reads.Learnt,
+  rest-reads.Asked,
+  rest-reads.Learnt,
+  lay-reads.Asked,
+  lay-reads.Learnt,
+  least-reads.Asked,
+  least-reads.Learnt,
+  write-body-below t,
+  write-body.Post,
+  lay-head-reads.Asked,
+  lay-head-reads.Learnt,
+)
+
+abbrev write-module-calls : ℕ → write-module-lts.Claims
+write-module-calls t = (
+  part-reads.Asked,
+  part-reads.Learnt,
+  lay-reads.Asked,
+  lay-reads.Learnt,
+  record-kind-reads.Asked,
+  record-kind-reads.Learnt,
+  name-place-reads.Asked,
+  name-place-reads.Learnt,
+  extended-reads.Asked,
+  extended-reads.Learnt,
+  table-of-reads.Asked,
+  table-of-reads.Learnt,
+  room-reads.Asked,
+  room-reads.Learnt,
+  write-mod-below t,
+  write-mod.Post,
+)
+
+write-body-least-requires : (t : ℕ) → write-body-lts.Need-least-requires (write-body-calls t) (write-body-at t) write-body.Post
+write-body-least-requires t c κs = search needs
+
+write-body-sub-write-imports : (t : ℕ) → write-body-lts.Need-sub-write-imports (write-body-calls t) (write-body-at t) write-body.Post
+write-body-sub-write-imports t c =
+    let least = c .before .least in
+    omega (arith, least .ensures)
+
+write-body-part-write-imports-start : (t : ℕ) → write-body-lts.Need-part-write-imports-start (write-body-calls t) (write-body-at t) write-body.Post
+write-body-part-write-imports-start t c =
+    let least = c .before .least in
+    omega (arith, least .ensures)
+
+write-body-part-write-imports-end : (t : ℕ) → write-body-lts.Need-part-write-imports-end (write-body-calls t) (write-body-at t) write-body.Post
+write-body-part-write-imports-end t c = search needs
+
+write-body-write-imports-requires : (t : ℕ) → write-body-lts.Need-write-imports-requires (write-body-calls t) (write-body-at t) write-body.Post
+write-body-write-imports-requires t c κs = search needs
+
+write-body-add-least : (t : ℕ) → write-body-lts.Need-add-least (write-body-calls t) (write-body-at t) write-body.Post
+write-body-add-least t c =
+    let args = c .before .before .before .before .before .before .before .before .before .before .before .args in
+    let pre = c .before .before .before .before .before .before .before .before .before .before .before .pre in
+    let write-imports = c .before .before .write-imports in
+    omega (
+      arith,
+      imports-bound (scope (args .op) (args .card .now) (args .root .now) (args .chain .now)) (args .work .now) ((pre .1 .0) .small) (args .pairs),
+      write-imports .ensures .ends,
+    )
+
+write-body-least-requires-2 : (t : ℕ) → write-body-lts.Need-least-requires-2 (write-body-calls t) (write-body-at t) write-body.Post
+write-body-least-requires-2 t c κs = search needs
+
+write-body-add-write-declarations : (t : ℕ) → write-body-lts.Need-add-write-declarations (write-body-calls t) (write-body-at t) write-body.Post
+write-body-add-write-declarations t c =
+    let pre = c .before .before .before .before .before .before .before .before .before .before .before .before .pre in
+    omega (arith, pre .1 .3)
+
+write-body-sub-write-declarations : (t : ℕ) → write-body-lts.Need-sub-write-declarations (write-body-calls t) (write-body-at t) write-body.Post
+write-body-sub-write-declarations t c =
+    let least2 = c .least2 in
+    omega (arith, least2 .ensures)
+
+write-body-part-write-declarations-start : (t : ℕ) → write-body-lts.Need-part-write-declarations-start (write-body-calls t) (write-body-at t) write-body.Post
+write-body-part-write-declarations-start t c =
+    let least2 = c .least2 in
+    omega (arith, least2 .ensures)
+
+write-body-part-write-declarations-end : (t : ℕ) → write-body-lts.Need-part-write-declarations-end (write-body-calls t) (write-body-at t) write-body.Post
+write-body-part-write-declarations-end t c = search needs
+
+write-body-write-declarations-requires : (t : ℕ) → write-body-lts.Need-write-declarations-requires (write-body-calls t) (write-body-at t) write-body.Post
+write-body-write-declarations-requires t c κs =
+    let pre = c .before .before .before .before .before .before .before .before .before .before .before .before .before .before .pre in
+    (omega (arith, pre .0), ((pre .1 .0), pre .1 .1, pre .1 .2, omega (arith, pre .1 .3)))
+
+write-body-add-n : (t : ℕ) → write-body-lts.Need-add-n (write-body-calls t) (write-body-at t) write-body.Post
+write-body-add-n t c =
+    let args = c .before .before .before .before .before .before .before .before .before .before .before .before .before .before .before .before .before
+    .before .before .before .args in
+    let pre = c .before .before .before .before .before .before .before .before .before .before .before .before .before .before .before .before .before .before
+    .before .before .pre in
+    let write-imports = c .before .before .before .before .before .before .before .before .before .before .before .write-imports in
+    let write-declarations = c .before .before .before .before .before .write-declarations in
+    omega (
+      arith,
+      imports-bound (scope (args .op) (args .card .now) (args .root .now) (args .chain .now)) (args .work .now) ((pre .1 .0) .small) (args .pairs),
+      write-imports .ensures .ends,
+      declarations-bound (args .op) (args .card .now) (args .root .now) ((pre .1 .0) .small) ((args .left) - 1)
+          (omega (arith, pre .1 .2)) (args .left) (pre .1 .2) (args .chain .now) (args .at) (args .from + 6) (args .to) ((pre .1 .0) .inside)
+          (made [] 0 (args .at) (table (args .pairs) (args .work .now))),
+      write-declarations .ensures .length-is,
+      (pre .1 .0) .inside,
+      (pre .1 .0) .small,
+    )
+
+write-body-add-lay-head : (t : ℕ) → write-body-lts.Need-add-lay-head (write-body-calls t) (write-body-at t) write-body.Post
+write-body-add-lay-head t c =
+    let args = c .before .before .before .before .before .before .before .before .before .before .before .before .before .before .before .before .before
+    .before .before .before .args in
+    let pre = c .before .before .before .before .before .before .before .before .before .before .before .before .before .before .before .before .before .before
+    .before .before .pre in
+    let write-imports = c .before .before .before .before .before .before .before .before .before .before .before .write-imports in
+    let write-declarations = c .before .before .before .before .before .write-declarations in
+    omega (
+      arith,
+      imports-bound (scope (args .op) (args .card .now) (args .root .now) (args .chain .now)) (args .work .now) ((pre .1 .0) .small) (args .pairs),
+      write-imports .ensures .ends,
+      declarations-bound (args .op) (args .card .now) (args .root .now) ((pre .1 .0) .small) ((args .left) - 1)
+          (omega (arith, pre .1 .2)) (args .left) (pre .1 .2) (args .chain .now) (args .at) (args .from + 6) (args .to) ((pre .1 .0) .inside)
+          (made [] 0 (args .at) (table (args .pairs) (args .work .now))),
+      write-declarations .ensures .length-is,
+      (pre .1 .0) .inside,
+      (pre .1 .0) .small,
+    )
+
+write-body-lay-head-requires : (t : ℕ) → write-body-lts.Need-lay-head-requires (write-body-calls t) (write-body-at t) write-body.Post
+write-body-lay-head-requires t c κs = search needs
+
+write-body-add-t23 : (t : ℕ) → write-body-lts.Need-add-t23 (write-body-calls t) (write-body-at t) write-body.Post
+write-body-add-t23 t c =
+    let args = c .before .before .before .before .before .before .before .before .before .before .before .before .before .before .before .before .before
+    .before .before .before .before .before .before .before .args in
+    let pre = c .before .before .before .before .before .before .before .before .before .before .before .before .before .before .before .before .before .before
+    .before .before .before .before .before .before .pre in
+    let write-imports = c .before .before .before .before .before .before .before .before .before .before .before .before .before .before .before
+    .write-imports in
+    let write-declarations = c .before .before .before .before .before .before .before .before .before .write-declarations in
+    omega (
+      arith,
+      imports-bound (scope (args .op) (args .card .now) (args .root .now) (args .chain .now)) (args .work .now) ((pre .1 .0) .small) (args .pairs),
+      write-imports .ensures .ends,
+      declarations-bound (args .op) (args .card .now) (args .root .now) ((pre .1 .0) .small) ((args .left) - 1)
+          (omega (arith, pre .1 .2)) (args .left) (pre .1 .2) (args .chain .now) (args .at) (args .from + 6) (args .to) ((pre .1 .0) .inside)
+          (made [] 0 (args .at) (table (args .pairs) (args .work .now))),
+      write-declarations .ensures .length-is,
+      (pre .1 .0) .inside,
+      (pre .1 .0) .small,
+    )
+
+write-body-same-length : (t : ℕ) → write-body-lts.Need-same-length (write-body-calls t) (write-body-at t) write-body.Post
+write-body-same-length t c = search needs
+
+write-body-same-length-2 : (t : ℕ) → write-body-lts.Need-same-length-2 (write-body-calls t) (write-body-at t) write-body.Post
+write-body-same-length-2 t c = search needs
+
+write-body-returns : (t : ℕ) → write-body-lts.Need-returns (write-body-calls t) (write-body-at t) write-body.Post
+write-body-returns t c =
+    let args = c .before .before .before .before .before .before .before .before .before .before .before .before .before .before .before .before .before
+    .before .before .before .before .before .before .before .args in
+    let least = c .before .before .before .before .before .before .before .before .before .before .before .before .before .before .before .before .before
+    .before .least in
+    let write-imports = c .before .before .before .before .before .before .before .before .before .before .before .before .before .before .before
+    .write-imports in
+    let least2 = c .before .before .before .before .before .before .before .before .before .before .before .before .least2 in
+    let write-declarations = c .before .before .before .before .before .before .before .before .before .write-declarations in
+    let lay-head = c .before .before .lay-head in
+    body-gives (args .op) (args .card .now) (args .root .now) (moduleMade (args .op) (args .card .now) (args .root .now) ((args .left) - 1)) (args .left)
+    (args .chain .now) (args .at) (args .from) (args .to) (table (args .pairs) (args .work .now)) (args .out .now) _ _ _ _ _ _ _ _ _ _ _ (least .ensures)
+    (write-imports .ensures) (least2 .ensures) (write-declarations .ensures) (lay-head .ensures)
+
+write-declaration-sub-part : (t : ℕ) → write-declaration-lts.Need-sub-part (write-declaration-calls t) (write-declaration-at t) write-declaration.Post
+write-declaration-sub-part t c =
+    let pre = c .before .before .before .before .before .pre in
+    omega (arith, (pre .1 .0) .ordered)
+
+write-declaration-part-requires : (t : ℕ) → write-declaration-lts.Need-part-requires (write-declaration-calls t) (write-declaration-at t) write-declaration.Post
+write-declaration-part-requires t c κs = search needs
+
+write-declaration-record-kind-requires : (t : ℕ) → write-declaration-lts.Need-record-kind-requires (write-declaration-calls t) (write-declaration-at t)
+    write-declaration.Post
+write-declaration-record-kind-requires t c κs = search needs
+
+write-declaration-least-requires : (t : ℕ) → write-declaration-lts.Need-least-requires (write-declaration-calls t) (write-declaration-at t)
+    write-declaration.Post
+write-declaration-least-requires t c κs = search needs
+
+write-declaration-add-write-module : (t : ℕ) → write-declaration-lts.Need-add-write-module (write-declaration-calls t) (write-declaration-at t)
+    write-declaration.Post
+write-declaration-add-write-module t c =
+    let pre = c .before .before .before .before .before .before .before .before .before .pre in
+    omega (arith, (pre .1 .0) .ordered, (pre .1 .0) .inside, (pre .1 .0) .small)
+
+write-declaration-sub-write-module : (t : ℕ) → write-declaration-lts.Need-sub-write-module (write-declaration-calls t) (write-declaration-at t)
+    write-declaration.Post
+write-declaration-sub-write-module t c =
+    let pre = c .before .before .before .before .before .before .before .before .before .pre in
+    omega (arith, pre .1 .1)
+
+write-declaration-sub-write-module-2 : (t : ℕ) → write-declaration-lts.Need-sub-write-module-2 (write-declaration-calls t) (write-declaration-at t)
+    write-declaration.Post
+write-declaration-sub-write-module-2 t c =
+    let least = c .least in
+    omega (arith, least .ensures)
+
+write-declaration-part-write-module-start : (t : ℕ) → write-declaration-lts.Need-part-write-module-start (write-declaration-calls t) (write-declaration-at t)
+    write-declaration.Post
+write-declaration-part-write-module-start t c =
+    let least = c .least in
+    omega (arith, least .ensures)
+
+write-declaration-part-write-module-end : (t : ℕ) → write-declaration-lts.Need-part-write-module-end (write-declaration-calls t) (write-declaration-at t)
+    write-declaration.Post
+write-declaration-part-write-module-end t c = search needs
+
+write-declaration-write-module-requires : (t : ℕ) → write-declaration-lts.Need-write-module-requires (write-declaration-calls t) (write-declaration-at t)
+    write-declaration.Post
+write-declaration-write-module-requires t c κs =
+    let pre = c .before .before .before .before .before .before .before .before .before .before .before .pre in
+    (omega (arith, pre .0, pre .1 .1), (pre .1 .0))
+
+write-declaration-add-lay-head : (t : ℕ) → write-declaration-lts.Need-add-lay-head (write-declaration-calls t) (write-declaration-at t) write-declaration.Post
+write-declaration-add-lay-head t c =
+    let args = c .before .before .before .before .before .before .before .before .before .before .before .before .before .before .before .before .before .args
+    in
+    let pre = c .before .before .before .before .before .before .before .before .before .before .before .before .before .before .before .before .before .pre in
+    let write-module = c .before .before .before .before .before .write-module in
+    omega (
+      arith,
+      module-bound (args .op) (args .card .now) (args .root .now) ((pre .1 .0) .small) ((args .left) - 1) (omega (arith, pre .1 .2))
+          (args .chain .now) (args .from + 6) (args .to) ((pre .1 .0) .ordered) ((pre .1 .0) .inside) (args .owner) (table (args .pairs) (args .work .now)),
+      write-module .ensures .length-is,
+      (pre .1 .0) .inside,
+      (pre .1 .0) .small,
+    )
+
+write-declaration-lay-head-requires : (t : ℕ) → write-declaration-lts.Need-lay-head-requires (write-declaration-calls t) (write-declaration-at t)
+    write-declaration.Post
+write-declaration-lay-head-requires t c κs = search needs
+
+write-declaration-add-t23 : (t : ℕ) → write-declaration-lts.Need-add-t23 (write-declaration-calls t) (write-declaration-at t) write-declaration.Post
+write-declaration-add-t23 t c =
+    let args = c .before .before .before .before .before .before .before .before .before .before .before .before .before .before .before .before .before
+    .before .before .before .before .before .args in
+    let pre = c .before .before .before .before .before .before .before .before .before .before .before .before .before .before .before .before .before .before
+    .before .before .before .before .pre in
+    let write-module = c .before .before .before .before .before .before .before .before .before .before .write-module in
+    omega (
+      arith,
+      module-bound (args .op) (args .card .now) (args .root .now) ((pre .1 .0) .small) ((args .left) - 1) (omega (arith, pre .1 .2))
+          (args .chain .now) (args .from + 6) (args .to) ((pre .1 .0) .ordered) ((pre .1 .0) .inside) (args .owner) (table (args .pairs) (args .work .now)),
+      write-module .ensures .length-is,
+      (pre .1 .0) .inside,
+      (pre .1 .0) .small,
+    )
+
+write-declaration-same-length : (t : ℕ) → write-declaration-lts.Need-same-length (write-declaration-calls t) (write-declaration-at t) write-declaration.Post
+write-declaration-same-length t c = search needs
+
+write-declaration-same-length-2 : (t : ℕ) → write-declaration-lts.Need-same-length-2 (write-declaration-calls t) (write-declaration-at t) write-declaration.Post
+write-declaration-same-length-2 t c = search needs
+
+write-declaration-returns : (t : ℕ) → write-declaration-lts.Need-returns (write-declaration-calls t) (write-declaration-at t) write-declaration.Post
+write-declaration-returns t c =
+    let args = c .before .before .before .before .before .before .before .before .before .before .before .before .before .before .before .before .before
+    .before .before .before .before .before .args in
+    let part = c .before .before .before .before .before .before .before .before .before .before .before .before .before .before .before .before .part in
+    let record-kind = c .before .before .before .before .before .before .before .before .before .before .before .before .before .before .before .record-kind in
+    let if1 = c .before .before .before .before .before .before .before .before .before .before .before .before .before .before .if1 in
+    let least = c .before .before .before .before .before .before .before .before .before .before .before .before .before .least in
+    let write-module = c .before .before .before .before .before .before .before .before .before .before .write-module in
+    let lay-head = c .before .before .before .lay-head in
+    nested-gives (args .op) (args .card .now) (args .root .now) (moduleMade (args .op) (args .card .now) (args .root .now) ((args .left) - 1)) (args .left)
+    (args .chain .now) (args .at) (args .from) (args .to) (args .owner) (table (args .pairs) (args .work .now)) _ (part .ensures) _ (record-kind .ensures .0)
+    (if1 .taken) (args .out .now) _ _ _ _ _ _ _ _ (least .ensures) (write-module .ensures) (lay-head .ensures)
+
+write-declaration-table-of-requires : (t : ℕ) → write-declaration-lts.Need-table-of-requires (write-declaration-calls t) (write-declaration-at t)
+    write-declaration.Post
+write-declaration-table-of-requires t c κs = search needs
+
+write-declaration-replace-requires : (t : ℕ) → write-declaration-lts.Need-replace-requires (write-declaration-calls t) (write-declaration-at t)
+    write-declaration.Post
+write-declaration-replace-requires t c κs = search needs
+
+write-declaration-same-length-3 : (t : ℕ) → write-declaration-lts.Need-same-length-3 (write-declaration-calls t) (write-declaration-at t) write-declaration.Post
+write-declaration-same-length-3 t c = search needs
+
+write-declaration-same-length-4 : (t : ℕ) → write-declaration-lts.Need-same-length-4 (write-declaration-calls t) (write-declaration-at t) write-declaration.Post
+write-declaration-same-length-4 t c = search needs
+
+write-declaration-returns-2 : (t : ℕ) → write-declaration-lts.Need-returns-2 (write-declaration-calls t) (write-declaration-at t) write-declaration.Post
+write-declaration-returns-2 t c =
+    let args = c .before .before .before .before .before .before .before .before .before .before .before .before .before .before .before .before .before .args
+    in
+    let part = c .before .before .before .before .before .before .before .before .before .before .before .part in
+    let record-kind = c .before .before .before .before .before .before .before .before .before .before .record-kind in
+    let if1 = c .before .before .before .before .before .before .before .before .before .if1 in
+    let table-of = c .before .before .before .before .before .before .before .table-of in
+    let replace = c .before .before .replace in
+    other-gives (args .op) (args .card .now) (args .root .now) (moduleMade (args .op) (args .card .now) (args .root .now) ((args .left) - 1)) (args .left)
+    (args .chain .now) (args .at) (args .from) (args .to) (args .owner) (table (args .pairs) (args .work .now)) _ (part .ensures) _ (record-kind .ensures .0)
+    (if1 .left) (args .out .now) _ _ _ _ (table-of .ensures .1) (replace .ensures)
+
+abbrev write-declarations-Inv-loop : write-declarations-lts.InvT-loop
+write-declarations-Inv-loop op card at from to left root chain out₀ work₀ pairs i₀ p₀ full₀ owner₀ mine₀ out work i p full owner mine =
+    Going card (declarationMade op card root (moduleMade op card root (left - 1)) left chain at) out₀ from to (made [] 0 at (table pairs work₀)) out work i p
+    full owner mine
+    × (length out ≡ length out₀) × (length work ≡ length work₀)
+
+abbrev write-declarations-μ-loop : write-declarations-lts.MeasureT-loop
+write-declarations-μ-loop op card at from to left root chain out₀ work₀ pairs i₀ p₀ full₀ owner₀ mine₀ out work i p full owner mine = to - i
+
+write-declarations-loop-holds : (t : ℕ) → write-declarations-lts.Need-loop-holds (write-declarations-calls t)
+    (write-declarations-at t)
+    write-declarations.Post
+    write-declarations-Inv-loop
+    write-declarations-μ-loop
+write-declarations-loop-holds t c =
+    let args = c .before .before .before .before .before .args in (
+      going-none (args .card .now) (declarationMade (args .op) (args .card .now) (args .root .now)
+          (moduleMade (args .op) (args .card .now) (args .root .now) ((args .left) - 1)) (args .left) (args .chain .now) (args .at)) (args .out .now) (args .from)
+          (args .to) (made [] 0 (args .at) (table (args .pairs) (args .work .now))) _ _ _ refl,
+      refl,
+      refl,
+    )
+
+write-declarations-sub-part : (t : ℕ) → write-declarations-lts.Need-sub-part (write-declarations-calls t)
+    (write-declarations-at t)
+    write-declarations.Post
+    write-declarations-Inv-loop
+    write-declarations-μ-loop
+write-declarations-sub-part t c =
+    let loop-test = c .loop-test in
+    omega (arith, loop-test .taken)
+
+write-declarations-part-requires : (t : ℕ) → write-declarations-lts.Need-part-requires (write-declarations-calls t)
+    (write-declarations-at t)
+    write-declarations.Post
+    write-declarations-Inv-loop
+    write-declarations-μ-loop
+write-declarations-part-requires t c κs = search needs
+
+write-declarations-is-short-requires : (t : ℕ) → write-declarations-lts.Need-is-short-requires (write-declarations-calls t)
+    (write-declarations-at t)
+    write-declarations.Post
+    write-declarations-Inv-loop
+    write-declarations-μ-loop
+write-declarations-is-short-requires t c κs = search needs
+
+write-declarations-same-length : (t : ℕ) → write-declarations-lts.Need-same-length (write-declarations-calls t)
+    (write-declarations-at t)
+    write-declarations.Post
+    write-declarations-Inv-loop
+    write-declarations-μ-loop
+write-declarations-same-length t c =
+    let loop = c .before .before .before .before .loop in
+    loop .inv .1
+
+write-declarations-same-length-2 : (t : ℕ) → write-declarations-lts.Need-same-length-2 (write-declarations-calls t)
+    (write-declarations-at t)
+    write-declarations.Post
+    write-declarations-Inv-loop
+    write-declarations-μ-loop
+write-declarations-same-length-2 t c =
+    let loop = c .before .before .before .before .loop in
+    loop .inv .2
+
+write-declarations-returns : (t : ℕ) → write-declarations-lts.Need-returns (write-declarations-calls t)
+    (write-declarations-at t)
+    write-declarations.Post
+    write-declarations-Inv-loop
+    write-declarations-μ-loop
+write-declarations-returns t c =
+    let args = c .before .before .before .before .before .before .before .before .before .before .args in
+    let loop = c .before .before .before .before .loop in
+    let part = c .before .before .part in
+    let is-short = c .before .is-short in
+    let if1 = c .if1 in
+    going-short (args .card .now) (declarationMade (args .op) (args .card .now) (args .root .now)
+    (moduleMade (args .op) (args .card .now) (args .root .now) ((args .left) - 1)) (args .left) (args .chain .now) (args .at)) (args .out .now) (args .from)
+    (args .to) (made [] 0 (args .at) (table (args .pairs) (args .work .now))) _ _ (loop .i) (loop .p) (loop .full) (loop .owner) (loop .mine) (loop .inv .0) _
+    (part .ensures) (sym (is-short .ensures) ∙ if1 .taken)
+
+write-declarations-add-next : (t : ℕ) → write-declarations-lts.Need-add-next (write-declarations-calls t)
+    (write-declarations-at t)
+    write-declarations.Post
+    write-declarations-Inv-loop
+    write-declarations-μ-loop
+write-declarations-add-next t c =
+    let loop = c .before .before .before .before .loop in
+    let pre = c .before .before .before .before .before .before .before .before .before .before .pre in
+    omega (arith, loop .inv .0 .inside, pre .1 .3, (pre .1 .0) .inside, (pre .1 .0) .small)
+
+write-declarations-record-length-requires : (t : ℕ) → write-declarations-lts.Need-record-length-requires (write-declarations-calls t)
+    (write-declarations-at t)
+    write-declarations.Post
+    write-declarations-Inv-loop
+    write-declarations-μ-loop
+write-declarations-record-length-requires t c κs = search needs
+
+write-declarations-add-next-2 : (t : ℕ) → write-declarations-lts.Need-add-next-2 (write-declarations-calls t)
+    (write-declarations-at t)
+    write-declarations.Post
+    write-declarations-Inv-loop
+    write-declarations-μ-loop
+write-declarations-add-next-2 t c =
+    let args = c .before .before .before .before .before .before .before .before .before .before .before .args in
+    let loop = c .before .before .before .before .before .loop in
+    let part = c .before .before .before .part in
+    let is-short = c .before .before .is-short in
+    let if1 = c .before .if1 in
+    let record-length = c .record-length in
+    let pre = c .before .before .before .before .before .before .before .before .before .before .before .pre in
+    omega (
+      arith,
+      next-fits (args .card .now) (declarationMade (args .op) (args .card .now) (args .root .now)
+          (moduleMade (args .op) (args .card .now) (args .root .now) ((args .left) - 1)) (args .left) (args .chain .now) (args .at)) (args .out .now) (args .from)
+          (args .to) (made [] 0 (args .at) (table (args .pairs) (args .work .now))) _ _ (loop .i) (loop .p) (loop .full) (loop .owner) (loop .mine) (loop .inv .0) _
+          (part .ensures) (sym (is-short .ensures) ∙ if1 .left) _ (record-length .ensures .0) .1,
+      (pre .1 .0) .inside,
+      (pre .1 .0) .small,
+    )
+
+write-declarations-least-requires : (t : ℕ) → write-declarations-lts.Need-least-requires (write-declarations-calls t)
+    (write-declarations-at t)
+    write-declarations.Post
+    write-declarations-Inv-loop
+    write-declarations-μ-loop
+write-declarations-least-requires t c κs = search needs
+
+write-declarations-sub-write-declaration : (t : ℕ) → write-declarations-lts.Need-sub-write-declaration (write-declarations-calls t)
+    (write-declarations-at t)
+    write-declarations.Post
+    write-declarations-Inv-loop
+    write-declarations-μ-loop
+write-declarations-sub-write-declaration t c =
+    let least = c .least in
+    omega (arith, least .ensures)
+
+write-declarations-part-write-declaration-start : (t : ℕ) → write-declarations-lts.Need-part-write-declaration-start (write-declarations-calls t)
+    (write-declarations-at t)
+    write-declarations.Post
+    write-declarations-Inv-loop
+    write-declarations-μ-loop
+write-declarations-part-write-declaration-start t c =
+    let least = c .least in
+    omega (arith, least .ensures)
+
+write-declarations-part-write-declaration-end : (t : ℕ) → write-declarations-lts.Need-part-write-declaration-end (write-declarations-calls t)
+    (write-declarations-at t)
+    write-declarations.Post
+    write-declarations-Inv-loop
+    write-declarations-μ-loop
+write-declarations-part-write-declaration-end t c = search needs
+
+write-declarations-write-declaration-requires : (t : ℕ) → write-declarations-lts.Need-write-declaration-requires (write-declarations-calls t)
+    (write-declarations-at t)
+    write-declarations.Post
+    write-declarations-Inv-loop
+    write-declarations-μ-loop
+write-declarations-write-declaration-requires t c κs =
+    let pre = c .before .before .before .before .before .before .before .before .before .before .before .before .before .before .pre in
+    let args = c .before .before .before .before .before .before .before .before .before .before .before .before .before .before .args in
+    let loop = c .before .before .before .before .before .before .before .before .loop in
+    let part = c .before .before .before .before .before .before .part in
+    let is-short = c .before .before .before .before .before .is-short in
+    let if1 = c .before .before .before .before .if1 in
+    let record-length = c .before .before .before .record-length in (
+      omega (arith, pre .0),
+      (
+        within-part _ _ _ _ _ (pre .1 .0) _ _ (next-fits (args .card .now) (declarationMade (args .op) (args .card .now) (args .root .now)
+            (moduleMade (args .op) (args .card .now) (args .root .now) ((args .left) - 1)) (args .left) (args .chain .now) (args .at)) (args .out .now) (args .from)
+            (args .to) (made [] 0 (args .at) (table (args .pairs) (args .work .now))) _ _ (loop .i) (loop .p) (loop .full) (loop .owner) (loop .mine) (loop .inv .0) _
+            (part .ensures) (sym (is-short .ensures) ∙ if1 .left) _ (record-length .ensures .0) .0) (next-fits (args .card .now)
+            (declarationMade (args .op) (args .card .now) (args .root .now) (moduleMade (args .op) (args .card .now) (args .root .now) ((args .left) - 1)) (args .left)
+            (args .chain .now) (args .at)) (args .out .now) (args .from) (args .to) (made [] 0 (args .at) (table (args .pairs) (args .work .now))) _ _ (loop .i)
+            (loop .p) (loop .full) (loop .owner) (loop .mine) (loop .inv .0) _ (part .ensures) (sym (is-short .ensures) ∙ if1 .left) _ (record-length .ensures .0) .1),
+        pre .1 .1,
+        pre .1 .2,
+      ),
+    )
+
+write-declarations-add-p : (t : ℕ) → write-declarations-lts.Need-add-p (write-declarations-calls t)
+    (write-declarations-at t)
+    write-declarations.Post
+    write-declarations-Inv-loop
+    write-declarations-μ-loop
+write-declarations-add-p t c =
+    let loop = c .before .before .before .before .before .before .before .before .before .before .before .before .before .before .loop in
+    let pre = c .before .before .before .before .before .before .before .before .before .before .before .before .before .before .before .before .before .before
+    .before .before .pre in
+    let write-declaration = c .before .before .before .before .before .write-declaration in
+    let args = c .before .before .before .before .before .before .before .before .before .before .before .before .before .before .before .before .before
+    .before .before .before .args in
+    let part = c .before .before .before .before .before .before .before .before .before .before .before .before .part in
+    let is-short = c .before .before .before .before .before .before .before .before .before .before .before .is-short in
+    let if1 = c .before .before .before .before .before .before .before .before .before .before .if1 in
+    let record-length = c .before .before .before .before .before .before .before .before .before .record-length in
+    omega (
+      arith,
+      loop .inv .0 .bound,
+      loop .inv .0 .inside,
+      pre .1 .3,
+      write-declaration .ensures .length-is,
+      (declaration-bound (args .op) (args .card .now) (args .root .now) ((pre .1 .0) .small) ((args .left) - 1) (omega (arith, pre .1 .2)) (args .left)
+          (pre .1 .2) (args .chain .now) (args .at) (loop .i) _ (next-fits (args .card .now) (declarationMade (args .op) (args .card .now) (args .root .now)
+          (moduleMade (args .op) (args .card .now) (args .root .now) ((args .left) - 1)) (args .left) (args .chain .now) (args .at)) (args .out .now) (args .from)
+          (args .to) (made [] 0 (args .at) (table (args .pairs) (args .work .now))) _ _ (loop .i) (loop .p) (loop .full) (loop .owner) (loop .mine) (loop .inv .0) _
+          (part .ensures) (sym (is-short .ensures) ∙ if1 .left) _ (record-length .ensures .0) .0) (inside-card _ _ _
+          (next-fits (args .card .now) (declarationMade (args .op) (args .card .now) (args .root .now)
+          (moduleMade (args .op) (args .card .now) (args .root .now) ((args .left) - 1)) (args .left) (args .chain .now) (args .at)) (args .out .now) (args .from)
+          (args .to) (made [] 0 (args .at) (table (args .pairs) (args .work .now))) _ _ (loop .i) (loop .p) (loop .full) (loop .owner) (loop .mine) (loop .inv .0) _
+          (part .ensures) (sym (is-short .ensures) ∙ if1 .left) _ (record-length .ensures .0) .1) ((pre .1 .0) .inside))) (loop .owner)
+          (table (loop .mine) (loop .work)),
+      next-fits (args .card .now) (declarationMade (args .op) (args .card .now) (args .root .now)
+          (moduleMade (args .op) (args .card .now) (args .root .now) ((args .left) - 1)) (args .left) (args .chain .now) (args .at)) (args .out .now) (args .from)
+          (args .to) (made [] 0 (args .at) (table (args .pairs) (args .work .now))) _ _ (loop .i) (loop .p) (loop .full) (loop .owner) (loop .mine) (loop .inv .0) _
+          (part .ensures) (sym (is-short .ensures) ∙ if1 .left) _ (record-length .ensures .0) .1,
+      (pre .1 .0) .inside,
+      (pre .1 .0) .small,
+    )
+
+write-declarations-first-full-requires : (t : ℕ) → write-declarations-lts.Need-first-full-requires (write-declarations-calls t)
+    (write-declarations-at t)
+    write-declarations.Post
+    write-declarations-Inv-loop
+    write-declarations-μ-loop
+write-declarations-first-full-requires t c κs = search needs
+
+write-declarations-loop-less : (t : ℕ) → write-declarations-lts.Need-loop-less (write-declarations-calls t)
+    (write-declarations-at t)
+    write-declarations.Post
+    write-declarations-Inv-loop
+    write-declarations-μ-loop
+write-declarations-loop-less t c =
+    let loop-test = c .before .before .before .before .before .before .before .before .before .before .before .before .before .before .loop-test in
+    let args = c .before .before .before .before .before .before .before .before .before .before .before .before .before .before .before .before .before
+    .before .before .before .before .args in
+    let loop = c .before .before .before .before .before .before .before .before .before .before .before .before .before .before .before .loop in
+    let part = c .before .before .before .before .before .before .before .before .before .before .before .before .before .part in
+    let is-short = c .before .before .before .before .before .before .before .before .before .before .before .before .is-short in
+    let if1 = c .before .before .before .before .before .before .before .before .before .before .before .if1 in
+    let record-length = c .before .before .before .before .before .before .before .before .before .before .record-length in
+    omega (
+      arith,
+      loop-test .taken,
+      next-fits (args .card .now) (declarationMade (args .op) (args .card .now) (args .root .now)
+          (moduleMade (args .op) (args .card .now) (args .root .now) ((args .left) - 1)) (args .left) (args .chain .now) (args .at)) (args .out .now) (args .from)
+          (args .to) (made [] 0 (args .at) (table (args .pairs) (args .work .now))) _ _ (loop .i) (loop .p) (loop .full) (loop .owner) (loop .mine) (loop .inv .0) _
+          (part .ensures) (sym (is-short .ensures) ∙ if1 .left) _ (record-length .ensures .0) .0,
+    )
+
+write-declarations-loop-again : (t : ℕ) → write-declarations-lts.Need-loop-again (write-declarations-calls t)
+    (write-declarations-at t)
+    write-declarations.Post
+    write-declarations-Inv-loop
+    write-declarations-μ-loop
+write-declarations-loop-again t c =
+    let args = c .before .before .before .before .before .before .before .before .before .before .before .before .before .before .before .before .before
+    .before .before .before .before .args in
+    let loop = c .before .before .before .before .before .before .before .before .before .before .before .before .before .before .before .loop in
+    let part = c .before .before .before .before .before .before .before .before .before .before .before .before .before .part in
+    let is-short = c .before .before .before .before .before .before .before .before .before .before .before .before .is-short in
+    let if1 = c .before .before .before .before .before .before .before .before .before .before .before .if1 in
+    let record-length = c .before .before .before .before .before .before .before .before .before .before .record-length in
+    let least = c .before .before .before .before .before .before .before .before .before .least in
+    let write-declaration = c .before .before .before .before .before .before .write-declaration in
+    let pre = c .before .before .before .before .before .before .before .before .before .before .before .before .before .before .before .before .before .before
+    .before .before .before .pre in
+    let first-full = c .first-full in (
+      going-next (args .card .now) (declarationMade (args .op) (args .card .now) (args .root .now)
+          (moduleMade (args .op) (args .card .now) (args .root .now) ((args .left) - 1)) (args .left) (args .chain .now) (args .at)) (args .out .now) (args .from)
+          (args .to) (made [] 0 (args .at) (table (args .pairs) (args .work .now))) _ _ (loop .i) (loop .p) (loop .full) (loop .owner) (loop .mine) (loop .inv .0) _
+          (part .ensures) (sym (is-short .ensures) ∙ if1 .left) _ (record-length .ensures .0) _ _ _ _ _ _ _ (least .ensures) (write-declaration .ensures)
+          (declaration-bound (args .op) (args .card .now) (args .root .now) ((pre .1 .0) .small) ((args .left) - 1) (omega (arith, pre .1 .2)) (args .left)
+          (pre .1 .2) (args .chain .now) (args .at) (loop .i) _ (next-fits (args .card .now) (declarationMade (args .op) (args .card .now) (args .root .now)
+          (moduleMade (args .op) (args .card .now) (args .root .now) ((args .left) - 1)) (args .left) (args .chain .now) (args .at)) (args .out .now) (args .from)
+          (args .to) (made [] 0 (args .at) (table (args .pairs) (args .work .now))) _ _ (loop .i) (loop .p) (loop .full) (loop .owner) (loop .mine) (loop .inv .0) _
+          (part .ensures) (sym (is-short .ensures) ∙ if1 .left) _ (record-length .ensures .0) .0) (inside-card _ _ _
+          (next-fits (args .card .now) (declarationMade (args .op) (args .card .now) (args .root .now)
+          (moduleMade (args .op) (args .card .now) (args .root .now) ((args .left) - 1)) (args .left) (args .chain .now) (args .at)) (args .out .now) (args .from)
+          (args .to) (made [] 0 (args .at) (table (args .pairs) (args .work .now))) _ _ (loop .i) (loop .p) (loop .full) (loop .owner) (loop .mine) (loop .inv .0) _
+          (part .ensures) (sym (is-short .ensures) ∙ if1 .left) _ (record-length .ensures .0) .1) ((pre .1 .0) .inside))) _ (first-full .ensures),
+      going-long
+          (args .card .now) (declarationMade (args .op) (args .card .now) (args .root .now) (moduleMade (args .op) (args .card .now) (args .root .now)
+          ((args .left) - 1)) (args .left) (args .chain .now) (args .at)) (args .out .now) (args .from) (args .to)
+          (made [] 0 (args .at) (table (args .pairs) (args .work .now))) _ _ _ _ _ _ _ (going-next (args .card .now)
+          (declarationMade (args .op) (args .card .now) (args .root .now) (moduleMade (args .op) (args .card .now) (args .root .now) ((args .left) - 1)) (args .left)
+          (args .chain .now) (args .at)) (args .out .now) (args .from) (args .to) (made [] 0 (args .at) (table (args .pairs) (args .work .now))) _ _ (loop .i)
+          (loop .p) (loop .full) (loop .owner) (loop .mine) (loop .inv .0) _ (part .ensures) (sym (is-short .ensures) ∙ if1 .left) _ (record-length .ensures .0) _ _
+          _ _ _ _ _ (least .ensures) (write-declaration .ensures) (declaration-bound (args .op) (args .card .now) (args .root .now) ((pre .1 .0) .small)
+          ((args .left) - 1) (omega (arith, pre .1 .2)) (args .left) (pre .1 .2) (args .chain .now) (args .at) (loop .i) _
+          (next-fits (args .card .now) (declarationMade (args .op) (args .card .now) (args .root .now)
+          (moduleMade (args .op) (args .card .now) (args .root .now) ((args .left) - 1)) (args .left) (args .chain .now) (args .at)) (args .out .now) (args .from)
+          (args .to) (made [] 0 (args .at) (table (args .pairs) (args .work .now))) _ _ (loop .i) (loop .p) (loop .full) (loop .owner) (loop .mine) (loop .inv .0) _
+          (part .ensures) (sym (is-short .ensures) ∙ if1 .left) _ (record-length .ensures .0) .0) (inside-card _ _ _
+          (next-fits (args .card .now) (declarationMade (args .op) (args .card .now) (args .root .now)
+          (moduleMade (args .op) (args .card .now) (args .root .now) ((args .left) - 1)) (args .left) (args .chain .now) (args .at)) (args .out .now) (args .from)
+          (args .to) (made [] 0 (args .at) (table (args .pairs) (args .work .now))) _ _ (loop .i) (loop .p) (loop .full) (loop .owner) (loop .mine) (loop .inv .0) _
+          (part .ensures) (sym (is-short .ensures) ∙ if1 .left) _ (record-length .ensures .0) .1) ((pre .1 .0) .inside))) _ (first-full .ensures)),
+      write-declaration
+          .kept .1 .1 .1 .1 .1 .1 .1 .1 .1 .0 ∙ loop .inv .2,
+    )
+
+write-declarations-same-length-3 : (t : ℕ) → write-declarations-lts.Need-same-length-3 (write-declarations-calls t)
+    (write-declarations-at t)
+    write-declarations.Post
+    write-declarations-Inv-loop
+    write-declarations-μ-loop
+write-declarations-same-length-3 t c =
+    let loop = c .before .loop in
+    loop .inv .1
+
+write-declarations-same-length-4 : (t : ℕ) → write-declarations-lts.Need-same-length-4 (write-declarations-calls t)
+    (write-declarations-at t)
+    write-declarations.Post
+    write-declarations-Inv-loop
+    write-declarations-μ-loop
+write-declarations-same-length-4 t c =
+    let loop = c .before .loop in
+    loop .inv .2
+
+write-declarations-returns-2 : (t : ℕ) → write-declarations-lts.Need-returns-2 (write-declarations-calls t)
+    (write-declarations-at t)
+    write-declarations.Post
+    write-declarations-Inv-loop
+    write-declarations-μ-loop
+write-declarations-returns-2 t c =
+    let args = c .before .before .before .before .before .before .before .args in
+    let loop = c .before .loop in
+    let loop-test = c .loop-test in
+    going-end (args .card .now) (declarationMade (args .op) (args .card .now) (args .root .now) (moduleMade (args .op) (args .card .now) (args .root .now)
+    ((args .left) - 1)) (args .left) (args .chain .now) (args .at)) (args .out .now) (args .from) (args .to)
+    (made [] 0 (args .at) (table (args .pairs) (args .work .now))) _ _ (loop .i) (loop .p) (loop .full) (loop .owner) (loop .mine) (loop .inv .0)
+    (omega (arith, loop-test .left))
+
+write-mod-sub-part : (t : ℕ) → write-mod-lts.Need-sub-part (write-mod-calls t) (write-mod-at t) write-mod.Post
+write-mod-sub-part t c =
+    let pre = c .before .before .before .before .before .pre in
+    omega (arith, (pre .1 .0) .ordered)
+
+write-mod-part-requires : (t : ℕ) → write-mod-lts.Need-part-requires (write-mod-calls t) (write-mod-at t) write-mod.Post
+write-mod-part-requires t c κs = search needs
+
+write-mod-content-requires : (t : ℕ) → write-mod-lts.Need-content-requires (write-mod-calls t) (write-mod-at t) write-mod.Post
+write-mod-content-requires t c κs = search needs
+
+write-mod-rest-requires : (t : ℕ) → write-mod-lts.Need-rest-requires (write-mod-calls t) (write-mod-at t) write-mod.Post
+write-mod-rest-requires t c κs = search needs
+
+write-mod-rest-requires-2 : (t : ℕ) → write-mod-lts.Need-rest-requires-2 (write-mod-calls t) (write-mod-at t) write-mod.Post
+write-mod-rest-requires-2 t c κs = search needs
+
+write-mod-rest-requires-3 : (t : ℕ) → write-mod-lts.Need-rest-requires-3 (write-mod-calls t) (write-mod-at t) write-mod.Post
+write-mod-rest-requires-3 t c κs = search needs
+
+write-mod-sub-f : (t : ℕ) → write-mod-lts.Need-sub-f (write-mod-calls t) (write-mod-at t) write-mod.Post
+write-mod-sub-f t c =
+    let args = c .before .before .before .before .before .before .before .before .before .before .args in
+    let part = c .before .before .before .before .part in
+    let content = c .before .before .before .content in
+    let rest = c .before .before .rest in
+    let rest2 = c .before .rest2 in
+    let rest3 = c .rest3 in
+    body-inside (args .op) (args .card .now) (args .root .now) (part .result .now) (content .result .now) (rest .result .now) (rest2 .result .now)
+    (rest3 .result .now) (content .result .now) (content .ensures) (rest .ensures) (rest2 .ensures) (rest3 .ensures) _ refl
+
+write-mod-part-requires-2 : (t : ℕ) → write-mod-lts.Need-part-requires-2 (write-mod-calls t) (write-mod-at t) write-mod.Post
+write-mod-part-requires-2 t c κs = search needs
+
+write-mod-lay-requires : (t : ℕ) → write-mod-lts.Need-lay-requires (write-mod-calls t) (write-mod-at t) write-mod.Post
+write-mod-lay-requires t c κs = search needs
+
+write-mod-add-least : (t : ℕ) → write-mod-lts.Need-add-least (write-mod-calls t) (write-mod-at t) write-mod.Post
+write-mod-add-least t c =
+    let args = c .before .before .before .before .before .before .before .before .before .before .before .before .before .before .before .args in
+    let part = c .before .before .before .before .before .before .before .before .before .part in
+    let content = c .before .before .before .before .before .before .before .before .content in
+    let pre = c .before .before .before .before .before .before .before .before .before .before .before .before .before .before .before .pre in
+    omega (
+      arith,
+      content-small (args .card .now) (args .at) (args .to) (part .result .now) (content .result .now) (part .ensures) (content .ensures),
+      (pre .1 .0) .inside,
+      (pre .1 .0) .small,
+    )
+
+write-mod-least-requires : (t : ℕ) → write-mod-lts.Need-least-requires (write-mod-calls t) (write-mod-at t) write-mod.Post
+write-mod-least-requires t c κs = search needs
+
+write-mod-add-write-body : (t : ℕ) → write-mod-lts.Need-add-write-body (write-mod-calls t) (write-mod-at t) write-mod.Post
+write-mod-add-write-body t c =
+    let pre = c .before .before .before .before .before .before .before .before .before .before .before .before .before .before .before .before .pre in
+    omega (arith, (pre .1 .0) .ordered, (pre .1 .0) .inside, (pre .1 .0) .small)
+
+write-mod-add-write-body-2 : (t : ℕ) → write-mod-lts.Need-add-write-body-2 (write-mod-calls t) (write-mod-at t) write-mod.Post
+write-mod-add-write-body-2 t c =
+    let args = c .before .before .before .before .before .before .before .before .before .before .before .before .before .before .before .before .args in
+    let part = c .before .before .before .before .before .before .before .before .before .before .part in
+    let content = c .before .before .before .before .before .before .before .before .before .content in
+    let pre = c .before .before .before .before .before .before .before .before .before .before .before .before .before .before .before .before .pre in
+    omega (
+      arith,
+      content-small (args .card .now) (args .at) (args .to) (part .result .now) (content .result .now) (part .ensures) (content .ensures),
+      (pre .1 .0) .ordered,
+      (pre .1 .0) .inside,
+      (pre .1 .0) .small,
+    )
+
+write-mod-sub-write-body : (t : ℕ) → write-mod-lts.Need-sub-write-body (write-mod-calls t) (write-mod-at t) write-mod.Post
+write-mod-sub-write-body t c =
+    let least = c .least in
+    omega (arith, least .ensures)
+
+write-mod-part-write-body-start : (t : ℕ) → write-mod-lts.Need-part-write-body-start (write-mod-calls t) (write-mod-at t) write-mod.Post
+write-mod-part-write-body-start t c =
+    let least = c .least in
+    omega (arith, least .ensures)
+
+write-mod-part-write-body-end : (t : ℕ) → write-mod-lts.Need-part-write-body-end (write-mod-calls t) (write-mod-at t) write-mod.Post
+write-mod-part-write-body-end t c = search needs
+
+write-mod-write-body-requires : (t : ℕ) → write-mod-lts.Need-write-body-requires (write-mod-calls t) (write-mod-at t) write-mod.Post
+write-mod-write-body-requires t c κs =
+    let pre = c .before .before .before .before .before .before .before .before .before .before .before .before .before .before .before .before .before .before
+    .pre in
+    let args = c .before .before .before .before .before .before .before .before .before .before .before .before .before .before .before .before .before
+    .before .args in
+    let part = c .before .before .before .before .before .before .before .before .before .before .before .before .part in
+    let content = c .before .before .before .before .before .before .before .before .before .before .before .content in (
+      omega (arith, pre .0),
+      (
+        within-zero _ _ _ _ _ (pre .1 .0),
+        pre .1 .1,
+        pre .1 .2,
+        omega (
+          arith,
+          content-small (args .card .now) (args .at) (args .to)
+              (part .result .now) (content .result .now) (part .ensures) (content .ensures),
+          (pre .1 .0) .ordered,
+          (pre .1 .0) .inside,
+          (pre .1 .0) .small,
+        ),
+      ),
+    )
+
+write-mod-add-n : (t : ℕ) → write-mod-lts.Need-add-n (write-mod-calls t) (write-mod-at t) write-mod.Post
+write-mod-add-n t c =
+    let args = c .before .before .before .before .before .before .before .before .before .before .before .before .before .before .before .before .before
+    .before .before .before .before .before .before .before .args in
+    let pre = c .before .before .before .before .before .before .before .before .before .before .before .before .before .before .before .before .before .before
+    .before .before .before .before .before .before .pre in
+    let content = c .before .before .before .before .before .before .before .before .before .before .before .before .before .before .before .before .before
+    .content in
+    let rest3 = c .before .before .before .before .before .before .before .before .before .before .before .before .before .before .rest3 in
+    let part = c .before .before .before .before .before .before .before .before .before .before .before .before .before .before .before .before .before
+    .before .part in
+    let write-body = c .before .before .before .before .before .write-body in
+    omega (
+      arith,
+      body-bound (args .op) (args .card .now) (args .root .now) ((pre .1 .0) .small) ((args .left) - 1) (omega (arith, pre .1 .2)) (args .left)
+          (pre .1 .2) (args .chain .now) (args .at) (args .at + 6 + (length (content .result .now) - length (rest3 .result .now))) (args .to) ((pre .1 .0) .inside)
+          (table (args .pairs) (args .work .now)),
+      content-small (args .card .now) (args .at) (args .to) (part .result .now) (content .result .now) (part .ensures)
+          (content .ensures),
+      write-body .ensures .length-is,
+      (pre .1 .0) .inside,
+      (pre .1 .0) .small,
+    )
+
+write-mod-add-lay-head : (t : ℕ) → write-mod-lts.Need-add-lay-head (write-mod-calls t) (write-mod-at t) write-mod.Post
+write-mod-add-lay-head t c =
+    let args = c .before .before .before .before .before .before .before .before .before .before .before .before .before .before .before .before .before
+    .before .before .before .before .before .before .before .args in
+    let pre = c .before .before .before .before .before .before .before .before .before .before .before .before .before .before .before .before .before .before
+    .before .before .before .before .before .before .pre in
+    let content = c .before .before .before .before .before .before .before .before .before .before .before .before .before .before .before .before .before
+    .content in
+    let rest3 = c .before .before .before .before .before .before .before .before .before .before .before .before .before .before .rest3 in
+    let part = c .before .before .before .before .before .before .before .before .before .before .before .before .before .before .before .before .before
+    .before .part in
+    let write-body = c .before .before .before .before .before .write-body in
+    omega (
+      arith,
+      body-bound (args .op) (args .card .now) (args .root .now) ((pre .1 .0) .small) ((args .left) - 1) (omega (arith, pre .1 .2)) (args .left)
+          (pre .1 .2) (args .chain .now) (args .at) (args .at + 6 + (length (content .result .now) - length (rest3 .result .now))) (args .to) ((pre .1 .0) .inside)
+          (table (args .pairs) (args .work .now)),
+      content-small (args .card .now) (args .at) (args .to) (part .result .now) (content .result .now) (part .ensures)
+          (content .ensures),
+      write-body .ensures .length-is,
+      (pre .1 .0) .inside,
+      (pre .1 .0) .small,
+    )
+
+write-mod-lay-head-requires : (t : ℕ) → write-mod-lts.Need-lay-head-requires (write-mod-calls t) (write-mod-at t) write-mod.Post
+write-mod-lay-head-requires t c κs = search needs
+
+write-mod-add-t21 : (t : ℕ) → write-mod-lts.Need-add-t21 (write-mod-calls t) (write-mod-at t) write-mod.Post
+write-mod-add-t21 t c =
+    let args = c .before .before .before .before .before .before .before .before .before .before .before .before .before .before .before .before .before
+    .before .before .before .before .before .before .before .before .before .before .before .args in
+    let pre = c .before .before .before .before .before .before .before .before .before .before .before .before .before .before .before .before .before .before
+    .before .before .before .before .before .before .before .before .before .before .pre in
+    let content = c .before .before .before .before .before .before .before .before .before .before .before .before .before .before .before .before .before
+    .before .before .before .before .content in
+    let rest3 = c .before .before .before .before .before .before .before .before .before .before .before .before .before .before .before .before .before
+    .before .rest3 in
+    let part = c .before .before .before .before .before .before .before .before .before .before .before .before .before .before .before .before .before
+    .before .before .before .before .before .part in
+    let write-body = c .before .before .before .before .before .before .before .before .before .write-body in
+    omega (
+      arith,
+      body-bound (args .op) (args .card .now) (args .root .now) ((pre .1 .0) .small) ((args .left) - 1) (omega (arith, pre .1 .2)) (args .left)
+          (pre .1 .2) (args .chain .now) (args .at) (args .at + 6 + (length (content .result .now) - length (rest3 .result .now))) (args .to) ((pre .1 .0) .inside)
+          (table (args .pairs) (args .work .now)),
+      content-small (args .card .now) (args .at) (args .to) (part .result .now) (content .result .now) (part .ensures)
+          (content .ensures),
+      write-body .ensures .length-is,
+      (pre .1 .0) .inside,
+      (pre .1 .0) .small,
+    )
+
+write-mod-same-length : (t : ℕ) → write-mod-lts.Need-same-length (write-mod-calls t) (write-mod-at t) write-mod.Post
+write-mod-same-length t c = search needs
+
+write-mod-same-length-2 : (t : ℕ) → write-mod-lts.Need-same-length-2 (write-mod-calls t) (write-mod-at t) write-mod.Post
+write-mod-same-length-2 t c = search needs
+
+write-mod-returns : (t : ℕ) → write-mod-lts.Need-returns (write-mod-calls t) (write-mod-at t) write-mod.Post
+write-mod-returns t c =
+    let args = c .before .before .before .before .before .before .before .before .before .before .before .before .before .before .before .before .before
+    .before .before .before .before .before .before .before .before .before .before .before .args in
+    let part = c .before .before .before .before .before .before .before .before .before .before .before .before .before .before .before .before .before
+    .before .before .before .before .before .part in
+    let content = c .before .before .before .before .before .before .before .before .before .before .before .before .before .before .before .before .before
+    .before .before .before .before .content in
+    let rest = c .before .before .before .before .before .before .before .before .before .before .before .before .before .before .before .before .before
+    .before .before .before .rest in
+    let rest2 = c .before .before .before .before .before .before .before .before .before .before .before .before .before .before .before .before .before
+    .before .before .rest2 in
+    let rest3 = c .before .before .before .before .before .before .before .before .before .before .before .before .before .before .before .before .before
+    .before .rest3 in
+    let part2 = c .before .before .before .before .before .before .before .before .before .before .before .before .before .before .before .before .before
+    .part2 in
+    let lay = c .before .before .before .before .before .before .before .before .before .before .before .before .before .before .before .lay in
+    let least = c .before .before .before .before .before .before .before .before .before .before .before .before .least in
+    let write-body = c .before .before .before .before .before .before .before .before .before .write-body in
+    let lay-head = c .before .before .lay-head in
+    mod-all (args .op) (args .card .now) (args .root .now) (moduleMade (args .op) (args .card .now) (args .root .now) ((args .left) - 1)) (args .left)
+    (args .chain .now) (args .at) (args .to) (table (args .pairs) (args .work .now)) (args .out .now) (part .result .now) (part .ensures)
+    (content .result .now) (rest .result .now) (rest2 .result .now) (rest3 .result .now) (content .ensures) (rest .ensures) (rest2 .ensures) (rest3 .ensures) _
+    refl _ _ _ _ _ _ _ _ _ _ (part2 .ensures) (lay .ensures) (least .ensures) (write-body .ensures) (lay-head .ensures)
+
+write-module-sub-part : (t : ℕ) → write-module-lts.Need-sub-part (write-module-calls t) (write-module-at t) write-module.Post
+write-module-sub-part t c =
+    let pre = c .before .before .before .before .before .pre in
+    omega (arith, (pre .1) .ordered)
+
+write-module-part-requires : (t : ℕ) → write-module-lts.Need-part-requires (write-module-calls t) (write-module-at t) write-module.Post
+write-module-part-requires t c κs = search needs
+
+write-module-lay-requires : (t : ℕ) → write-module-lts.Need-lay-requires (write-module-calls t) (write-module-at t) write-module.Post
+write-module-lay-requires t c κs = search needs
+
+write-module-same-length : (t : ℕ) → write-module-lts.Need-same-length (write-module-calls t) (write-module-at t) write-module.Post
+write-module-same-length t c = search needs
+
+write-module-returns : (t : ℕ) → write-module-lts.Need-returns (write-module-calls t) (write-module-at t) write-module.Post
+write-module-returns t c =
+    let args = c .before .before .before .before .before .before .before .before .before .before .before .args in
+    let part = c .before .before .before .before .before .part in
+    let if1 = c .before .before .before .before .if1 in
+    let lay = c .before .before .lay in
+    module-shallow (args .op) (args .card .now) (args .root .now) (args .left) (args .chain .now) (args .at) (args .to) (args .owner) (args .pairs)
+    (args .work .now) (args .out .now) (part .result .now) (part .ensures) (if1 .taken) _ (lay .ensures)
+
+write-module-record-kind-requires : (t : ℕ) → write-module-lts.Need-record-kind-requires (write-module-calls t) (write-module-at t) write-module.Post
+write-module-record-kind-requires t c κs = search needs
+
+write-module-lay-requires-2 : (t : ℕ) → write-module-lts.Need-lay-requires-2 (write-module-calls t) (write-module-at t) write-module.Post
+write-module-lay-requires-2 t c κs = search needs
+
+write-module-same-length-2 : (t : ℕ) → write-module-lts.Need-same-length-2 (write-module-calls t) (write-module-at t) write-module.Post
+write-module-same-length-2 t c = search needs
+
+write-module-returns-2 : (t : ℕ) → write-module-lts.Need-returns-2 (write-module-calls t) (write-module-at t) write-module.Post
+write-module-returns-2 t c =
+    let args = c .before .before .before .before .before .before .before .before .before .before .before .before .before .args in
+    let part = c .before .before .before .before .before .before .before .part in
+    let if1 = c .before .before .before .before .before .before .if1 in
+    let record-kind = c .before .before .before .before .before .record-kind in
+    let if2 = c .before .before .before .before .if2 in
+    let lay2 = c .before .before .lay2 in
+    module-other (args .op) (args .card .now) (args .root .now) (args .left) (args .chain .now) (args .at) (args .to) (args .owner) (args .pairs)
+    (args .work .now) (args .out .now) (part .result .now) (part .ensures) (if1 .left) _ (record-kind .ensures .0) (if2 .taken) _ (lay2 .ensures)
+
+write-module-name-place-requires : (t : ℕ) → write-module-lts.Need-name-place-requires (write-module-calls t) (write-module-at t) write-module.Post
+write-module-name-place-requires t c κs = search needs
+
+write-module-extended-requires : (t : ℕ) → write-module-lts.Need-extended-requires (write-module-calls t) (write-module-at t) write-module.Post
+write-module-extended-requires t c κs =
+    let pre = c .before .before .before .before .before .before .before .before .before .before .pre in
+    let if1 = c .before .before .before .if1 in
+    names-fit _ _ _ _ _ (pre .1) (if1 .left)
+
+write-module-add-n : (t : ℕ) → write-module-lts.Need-add-n (write-module-calls t) (write-module-at t) write-module.Post
+write-module-add-n t c =
+    let pre = c .before .before .before .before .before .before .before .before .before .before .before .pre in
+    let if1 = c .before .before .before .before .if1 in
+    omega (arith, names-fit _ _ _ _ _ (pre .1) (if1 .left))
+
+write-module-array-share-prefix-names : (t : ℕ) → write-module-lts.Need-array-share-prefix-names (write-module-calls t) (write-module-at t) write-module.Post
+write-module-array-share-prefix-names t c =
+    let pre = c .before .before .before .before .before .before .before .before .before .before .before .pre in
+    let if1 = c .before .before .before .before .if1 in
+    omega (arith, names-fit _ _ _ _ _ (pre .1) (if1 .left))
+
+write-module-slice-aggregate-inner : (t : ℕ) → write-module-lts.Need-slice-aggregate-inner (write-module-calls t) (write-module-at t) write-module.Post
+write-module-slice-aggregate-inner t c =
+    let extended = c .before .extended in
+    let args = c .before .before .before .before .before .before .before .before .before .before .before .before .args in
+    sym (ap length (extended .ensures) ∙ length-append (args .chain .now) _)
+
+write-module-table-of-requires : (t : ℕ) → write-module-lts.Need-table-of-requires (write-module-calls t) (write-module-at t) write-module.Post
+write-module-table-of-requires t c κs = search needs
+
+write-module-room-requires : (t : ℕ) → write-module-lts.Need-room-requires (write-module-calls t) (write-module-at t) write-module.Post
+write-module-room-requires t c κs = search needs
+
+write-module-add-t35 : (t : ℕ) → write-module-lts.Need-add-t35 (write-module-calls t) (write-module-at t) write-module.Post
+write-module-add-t35 t c =
+    let pre = c .before .before .before .before .before .before .before .before .before .before .before .before .before .before .before .before .before .before
+    .before .pre in
+    omega (arith, (pre .1) .ordered, (pre .1) .inside, (pre .1) .small)
+
+write-module-same-length-3 : (t : ℕ) → write-module-lts.Need-same-length-3 (write-module-calls t) (write-module-at t) write-module.Post
+write-module-same-length-3 t c = search needs
+
+write-module-returns-3 : (t : ℕ) → write-module-lts.Need-returns-3 (write-module-calls t) (write-module-at t) write-module.Post
+write-module-returns-3 t c =
+    let args = c .before .before .before .before .before .before .before .before .before .before .before .before .before .before .before .before .before
+    .before .before .args in
+    let part = c .before .before .before .before .before .before .before .before .before .before .before .before .before .part in
+    let if1 = c .before .before .before .before .before .before .before .before .before .before .before .before .if1 in
+    let record-kind = c .before .before .before .before .before .before .before .before .before .before .before .record-kind in
+    let if2 = c .before .before .before .before .before .before .before .before .before .before .if2 in
+    let name-place = c .before .before .before .before .before .before .before .before .before .name-place in
+    let extended = c .before .before .before .before .before .before .before .before .extended in
+    let table-of = c .before .before .before .before .before .table-of in
+    let room = c .before .room in
+    let if3 = c .if3 in
+    module-full (args .op) (args .card .now) (args .root .now) (args .left) (args .chain .now) (args .at) (args .to) (args .owner) (args .pairs)
+    (args .work .now) (args .out .now) (part .result .now) (part .ensures) (if1 .left) _ (record-kind .ensures .0) (if2 .left) _ _ (name-place .ensures)
+    (extended .ensures) _ _ (table-of .ensures .1) (rw (room .ensures) at (if3 .taken))
+
+write-module-write-mod-requires : (t : ℕ) → write-module-lts.Need-write-mod-requires (write-module-calls t) (write-module-at t) write-module.Post
+write-module-write-mod-requires t c κs =
+    let pre = c .before .before .before .before .before .before .before .before .before .before .before .before .before .before .before .before .before .before
+    .before .before .before .pre in
+    let if1 = c .before .before .before .before .before .before .before .before .before .before .before .before .before .before .if1 in
+    let extended = c .before .before .before .before .before .before .before .before .before .before .extended in
+    (omega (arith, pre .0), (within-inner _ _ _ _ _ (pre .1) (if1 .left) _ _ (extended .ensures), omega (arith, if1 .left), omega (arith, (pre .1) .shallow)))
+
+write-module-same-length-4 : (t : ℕ) → write-module-lts.Need-same-length-4 (write-module-calls t) (write-module-at t) write-module.Post
+write-module-same-length-4 t c = search needs
+
+write-module-same-length-5 : (t : ℕ) → write-module-lts.Need-same-length-5 (write-module-calls t) (write-module-at t) write-module.Post
+write-module-same-length-5 t c = search needs
+
+write-module-returns-4 : (t : ℕ) → write-module-lts.Need-returns-4 (write-module-calls t) (write-module-at t) write-module.Post
+write-module-returns-4 t c =
+    let args = c .before .before .before .before .before .before .before .before .before .before .before .before .before .before .before .before .before
+    .before .before .before .before .before .before .before .before .before .args in
+    let part = c .before .before .before .before .before .before .before .before .before .before .before .before .before .before .before .before .before
+    .before .before .before .part in
+    let if1 = c .before .before .before .before .before .before .before .before .before .before .before .before .before .before .before .before .before .before
+    .before .if1 in
+    let record-kind = c .before .before .before .before .before .before .before .before .before .before .before .before .before .before .before .before .before
+    .before .record-kind in
+    let if2 = c .before .before .before .before .before .before .before .before .before .before .before .before .before .before .before .before .before .if2 in
+    let name-place = c .before .before .before .before .before .before .before .before .before .before .before .before .before .before .before .before
+    .name-place in
+    let extended = c .before .before .before .before .before .before .before .before .before .before .before .before .before .before .before .extended in
+    let table-of = c .before .before .before .before .before .before .before .before .before .before .before .before .table-of in
+    let room = c .before .before .before .before .before .before .before .before .room in
+    let if3 = c .before .before .before .before .before .before .before .if3 in
+    let write-mod = c .before .before .before .before .write-mod in
+    module-mod (args .op) (args .card .now) (args .root .now) (args .left) (args .chain .now) (args .at) (args .to) (args .owner) (args .pairs)
+    (args .work .now) (args .out .now) (part .result .now) (part .ensures) (if1 .left) _ (record-kind .ensures .0) (if2 .left) _ _ (name-place .ensures)
+    (extended .ensures) _ _ (table-of .ensures .1) (fits-room (table-of .last .1 .1 .1 .1 .1 .1 .0) _ _ (room .ensures) (omega (arith, if3 .left))) _ _ _ _ _ _
+    (write-mod .ensures)
+
+pub +write-body+write-declaration+write-declarations+write-mod+write-module-spec :
+    {M : Type 1} → statement M
++write-body+write-declaration+write-declarations+write-mod+write-module-spec =
+    close
+    μ-write-body
+    μ-write-declaration
+    μ-write-declarations
+    μ-write-mod
+    μ-write-module
+    (λ t. write-body-lts.spec (
+      least-reads.Asked,
+      least-reads.Learnt,
+      write-imports-reads.Asked,
+      write-imports-reads.Learnt,
+      write-declarations-below t,
+      write-declarations.Post,
+      lay-head-reads.Asked,
+      lay-head-reads.Learnt,
+    )
+    (write-body-at t)
+    write-body.Post
+    (write-body-least-requires t)
+    (write-body-sub-write-imports t)
+    (write-body-part-write-imports-start t)
+    (write-body-part-write-imports-end t)
+    (write-body-write-imports-requires t)
+    (write-body-add-least t)
+    (write-body-least-requires-2 t)
+    (write-body-add-write-declarations t)
+    (write-body-sub-write-declarations t)
+    (write-body-part-write-declarations-start t)
+    (write-body-part-write-declarations-end t)
+    (write-body-write-declarations-requires t)
+    (write-body-add-n t)
+    (write-body-add-lay-head t)
+    (write-body-lay-head-requires t)
+    (write-body-add-t23 t)
+    (write-body-same-length t)
+    (write-body-same-length-2 t)
+    (write-body-returns t))
+    (λ t. write-declaration-lts.spec (
+      part-reads.Asked,
+      part-reads.Learnt,
+      record-kind-reads.Asked,
+      record-kind-reads.Learnt,
+      least-reads.Asked,
+      least-reads.Learnt,
+      write-module-below t,
+      write-module.Post,
+      lay-head-reads.Asked,
+      lay-head-reads.Learnt,
+      table-of-reads.Asked,
+      table-of-reads.Learnt,
+      replace-reads.Asked,
+      replace-reads.Learnt,
+    )
+    (write-declaration-at t)
+    write-declaration.Post
+    (write-declaration-sub-part t)
+    (write-declaration-part-requires t)
+    (write-declaration-record-kind-requires t)
+    (write-declaration-least-requires t)
+    (write-declaration-add-write-module t)
+    (write-declaration-sub-write-module t)
+    (write-declaration-sub-write-module-2 t)
+    (write-declaration-part-write-module-start t)
+    (write-declaration-part-write-module-end t)
+    (write-declaration-write-module-requires t)
+    (write-declaration-add-lay-head t)
+    (write-declaration-lay-head-requires t)
+    (write-declaration-add-t23 t)
+    (write-declaration-same-length t)
+    (write-declaration-same-length-2 t)
+    (write-declaration-returns t)
+    (write-declaration-table-of-requires t)
+    (write-declaration-replace-requires t)
+    (write-declaration-same-length-3 t)
+    (write-declaration-same-length-4 t)
+    (write-declaration-returns-2 t))
+    (λ t. write-declarations-lts.spec (
+      part-reads.Asked,
+      part-reads.Learnt,
+      is-short-reads.Asked,
+      is-short-reads.Learnt,
+      record-length-reads.Asked,
+      record-length-reads.Learnt,
+      least-reads.Asked,
+      least-reads.Learnt,
+      write-declaration-below t,
+      write-declaration.Post,
+      first-full-reads.Asked,
+      first-full-reads.Learnt,
+    )
+    (write-declarations-at t)
+    write-declarations.Post
+    write-declarations-Inv-loop
+    write-declarations-μ-loop
+    (write-declarations-loop-holds t)
+    (write-declarations-sub-part t)
+    (write-declarations-part-requires t)
+    (write-declarations-is-short-requires t)
+    (write-declarations-same-length t)
+    (write-declarations-same-length-2 t)
+    (write-declarations-returns t)
+    (write-declarations-add-next t)
+    (write-declarations-record-length-requires t)
+    (write-declarations-add-next-2 t)
+    (write-declarations-least-requires t)
+    (write-declarations-sub-write-declaration t)
+    (write-declarations-part-write-declaration-start t)
+    (write-declarations-part-write-declaration-end t)
+    (write-declarations-write-declaration-requires t)
+    (write-declarations-add-p t)
+    (write-declarations-first-full-requires t)
+    (write-declarations-loop-less t)
+    (write-declarations-loop-again t)
+    (write-declarations-same-length-3 t)
+    (write-declarations-same-length-4 t)
+    (write-declarations-returns-2 t))
+    (λ t. write-mod-lts.spec (
+      part-reads.Asked,
+      part-reads.Learnt,
+      content-reads.Asked,
+      content-reads.Learnt,
+      rest-reads.Asked,
+      rest-reads.Learnt,
+      lay-reads.Asked,
+      lay-reads.Learnt,
+      least-reads.Asked,
+      least-reads.Learnt,
+      write-body-below t,
+      write-body.Post,
+      lay-head-reads.Asked,
+      lay-head-reads.Learnt,
+    )
+    (write-mod-at t)
+    write-mod.Post
+    (write-mod-sub-part t)
+    (write-mod-part-requires t)
+    (write-mod-content-requires t)
+    (write-mod-rest-requires t)
+    (write-mod-rest-requires-2 t)
+    (write-mod-rest-requires-3 t)
+    (write-mod-sub-f t)
+    (write-mod-part-requires-2 t)
+    (write-mod-lay-requires t)
+    (write-mod-add-least t)
+    (write-mod-least-requires t)
+    (write-mod-add-write-body t)
+    (write-mod-add-write-body-2 t)
+    (write-mod-sub-write-body t)
+    (write-mod-part-write-body-start t)
+    (write-mod-part-write-body-end t)
+    (write-mod-write-body-requires t)
+    (write-mod-add-n t)
+    (write-mod-add-lay-head t)
+    (write-mod-lay-head-requires t)
+    (write-mod-add-t21 t)
+    (write-mod-same-length t)
+    (write-mod-same-length-2 t)
+    (write-mod-returns t))
+    λ t. write-module-lts.spec (
+      part-reads.Asked,
+      part-reads.Learnt,
+      lay-reads.Asked,
+      lay-reads.Learnt,
+      record-kind-reads.Asked,
+      record-kind-reads.Learnt,
+      name-place-reads.Asked,
+      name-place-reads.Learnt,
+      extended-reads.Asked,
+      extended-reads.Learnt,
+      table-of-reads.Asked,
+      table-of-reads.Learnt,
+      room-reads.Asked,
+      room-reads.Learnt,
+      write-mod-below t,
+      write-mod.Post,
+    )
+    (write-module-at t)
+    write-module.Post
+    (write-module-sub-part t)
+    (write-module-part-requires t)
+    (write-module-lay-requires t)
+    (write-module-same-length t)
+    (write-module-returns t)
+    (write-module-record-kind-requires t)
+    (write-module-lay-requires-2 t)
+    (write-module-same-length-2 t)
+    (write-module-returns-2 t)
+    (write-module-name-place-requires t)
+    (write-module-extended-requires t)
+    (write-module-add-n t)
+    (write-module-array-share-prefix-names t)
+    (write-module-slice-aggregate-inner t)
+    (write-module-table-of-requires t)
+    (write-module-room-requires t)
+    (write-module-add-t35 t)
+    (write-module-same-length-3 t)
+    (write-module-returns-3 t)
+    (write-module-write-mod-requires t)
+    (write-module-same-length-4 t)
+    (write-module-same-length-5 t)
+    (write-module-returns-4 t)

@@ -1,0 +1,4 @@
+pub mod Chain
+pub mod Going
+pub mod Pieces
+pub mod Tests

@@ -1,0 +1,191 @@
+-- What the members of the ring write, from what those that they call do: parts of out that are lent and come back, and heads laid once what is behind them is.
+-- Assumes nothing.
+use mathlib.Core.Path.{_≡_, refl, sym, ap, subst, _∙_}
+use mathlib.Core.Bool.{Bool, true, false, not, cond}
+use mathlib.Core.List.{List, [], _∷_, _++_}
+use Prim.Native.Nat.{ℕ, zero, suc, _+_, _-_, _*_, _^_, _<_, _≤_, min}
+use native.Mathlib.Nat.{zero-add}
+use native.Mathlib.Omega.{arith}
+use lib.ListN.{length, take, drop, length-append, length-take, length-drop}
+use lib.Seq.{take-all}
+use lib.Dec.{eqb, ltb}
+use borrow.Author.Tests.{eq-eqb, ne-eqb, lt-ltb, le-ltb}
+use Rattle.wire.specs.Numbers.{Bytes, between}
+use Rattle.records.specs.Record.{recordBytes, kindOf, contentOf, restOf}
+use Rattle.records.proofs.Tree.{record-length}
+use Rattle.operation.specs.declared.Shortening.{Shortening}
+use Rattle.prefix.specs.Prefix.{scope}
+use Rattle.chains.specs.Chains.{room}
+use Rattle.adding.specs.Adds.{Table, table}
+use Rattle.fields.specs.Fields.{namePlace}
+use Rattle.gathering.specs.Gathers.{Span, span, spansIn}
+use Rattle.tables.specs.Tables.{tableOf}
+use Rattle.laying.specs.Lays.{lay, Laid, headBytes}
+use Rattle.laying.proofs.Laws.{lay-part, lay-behind, laid-record}
+use Rattle.rewriting.specs.Imports.{importsBytes}
+use Rattle.rewriting.specs.Rewrites.{declaration}
+use Rattle.rewriting.proofs.Lengths.{rest-inside}
+use Rattle.modules.specs.Modules.{Made, made, bodyIn, aheadIn, nestedMade, eachMade, declarationMade, bodyMade, modMade, moduleMade}
+use Rattle.writing.specs.Wrote.{Wrote}
+
+-- the part of out that is lent from a place on, and out when it is back
+abbrev pub lent : Bytes → ℕ → Bytes
+lent out q = take (length out - q) (drop q out)
+
+abbrev pub back : Bytes → ℕ → Bytes → Bytes
+back out q part = take q out ++ (part ++ drop (length out - q) (drop q out))
+
+pub lent-back : (out : Bytes) (at q : ℕ) (b part : Bytes) → q ≡ min at (length out) → part ≡ lay (lent out q) 0 b → back out q part ≡ lay out at b
+lent-back out at q b part e f =
+    let whole : lent out q ≡ drop q out = take-all (length out - q) (drop q out) (omega (arith, length-drop q out)) in
+    rw (f ∙ ap (λ (x : Bytes). lay x 0 b) whole) (lay-part out at q b e)
+
+-- b laid over the part behind a head, then the head
+pub headed : (out : Bytes) (q k n : ℕ) (b part after : Bytes) → q ≡ min 6 (length out) → part ≡ lay (lent out q) 0 b → n ≡ 2 + length b
+    → after ≡ lay (back out q part) 0 (headBytes n k) → after ≡ lay out 0 (recordBytes k b)
+headed out q k n b part after e f l h =
+    laid-record out 0 k b (6 + length b) (back out q part) after (record { ends = refl; bytes = lent-back out 6 q b part e f })
+    (rw (l ∙ long) at h) .bytes
+  where
+    long : 2 + length b ≡ 6 + length b - 0 - 4
+    long = omega arith
+
+-- two pieces behind a head: a in one way or another, then b over the part behind it, then the head
+pub headed-two : (out o₁ : Bytes) (p k n : ℕ) (a b part after : Bytes) → o₁ ≡ lay out 6 a → p ≡ min (length a + 6) (length o₁) → part ≡ lay (lent o₁ p) 0 b
+    → n ≡ 2 + (length a + length b) → after ≡ lay (back o₁ p part) 0 (headBytes n k) → after ≡ lay out 0 (recordBytes k (a ++ b))
+headed-two out o₁ p k n a b part after d e f l h =
+    laid-record out 0 k (a ++ b) (6 + length (a ++ b)) (back o₁ p part) after
+    (record { ends = refl; bytes = lent-back o₁ (length a + 6) p b part e f ∙ rw (d, turned) (lay-behind out 6 a b) })
+    (rw (l ∙ long) at h) .bytes
+  where
+    turned : length a + 6 ≡ 6 + length a
+    turned = omega arith
+
+    long : 2 + (length a + length b) ≡ 6 + length (a ++ b) - 0 - 4
+    long = let c = length-append a b in omega arith
+
+module _ (op : Shortening) (card root : Bytes) where
+  -- a declaration that holds a module
+  module _ (f : List ℕ → Span → ℕ → Table → Made) (depth : ℕ) (chain : List ℕ) (at from to owner₀ : ℕ) (held : Table) (d : Bytes)
+      (y : d ≡ between card from to) (k : ℕ) (z : k ≡ kindOf d) where
+    pub nested-gives : k ≡ 0x62 → (out : Bytes) (q : ℕ) (part : Bytes) (words : List ℕ) (len full owner pairs : ℕ) (after : Bytes) → q ≡ min 6 (length out)
+        → Wrote (lent out q) part words len full owner pairs (f chain (span (from + 6) to) owner₀ held)
+        → after ≡ lay (back out q part) 0 (headBytes (len + 2) 0x62)
+        → Wrote out after words (len + 6) full owner pairs (declarationMade op card root f depth chain at (span from to) owner₀ held)
+    unfolding declarationMade nestedMade
+    nested-gives n out q part words len full owner pairs after e w h =
+        let m = f chain (span (from + 6) to) owner₀ held in
+        rw (eq-eqb (kindOf (between card from to)) 0x62 (sym (ap kindOf y) ∙ sym z ∙ n))
+        (record {
+          length-is = (let l = record-length 0x62 (m .bytes) in omega (arith, w .length-is, l));
+          laid = headed out q 0x62 (len + 2) (m .bytes) part after e (w .laid) (omega (arith, w .length-is)) h;
+          full-is = w .full-is;
+          owner-is = w .owner-is;
+          held-is = w .held-is;
+        })
+
+    -- and any other, by the module's table
+    pub other-gives : (k ≡ 0x62 → ⊥) → (out : Bytes) (words : List ℕ) (pairs n : ℕ) (after : Bytes)
+        → table pairs words ≡ tableOf (scope op card root chain) depth at owner₀ held → Laid out 0 (declaration (scope op card root chain) words depth d) n
+        after
+        → Wrote out after words n 0 at pairs (declarationMade op card root f depth chain at (span from to) owner₀ held)
+    unfolding declarationMade
+    other-gives b out words pairs n after e x =
+        rw (ne-eqb (kindOf (between card from to)) 0x62 (λ i. b (z ∙ ap kindOf y ∙ i)), ← e)
+        (record {
+          length-is = rw y at (x .ends ∙ zero-add (length (declaration (scope op card root chain) words depth d)));
+          laid = rw y at (x .bytes);
+          full-is = refl;
+          owner-is = refl;
+          held-is = refl;
+        })
+
+  -- a body: its uses, then its declarations
+  module _ (f : List ℕ → Span → ℕ → Table → Made) (depth : ℕ) (chain : List ℕ) (at from to : ℕ) (mine : Table) where
+    abbrev Uses : Bytes
+    Uses = importsBytes (scope op card root chain) (mine .words) (mine .count)
+
+    abbrev Each : Made
+    Each = eachMade (declarationMade op card root f depth chain at) (spansIn card (from + 6) to) (made [] 0 at mine)
+
+    pub body-gives : (out : Bytes) (q u p : ℕ) (part part′ : Bytes) (words : List ℕ) (len full owner pairs : ℕ) (after : Bytes) → q ≡ min 6 (length out)
+        → Laid (lent out q) 0 Uses u part → p ≡ min (u + 6) (length (back out q part)) → Wrote (lent (back out q part) p) part′ words len full owner pairs Each
+        → after ≡ lay (back (back out q part) p part′) 0 (headBytes (u + len + 2) 2)
+        → Wrote out after words (u + len + 6) full owner pairs (bodyMade op card root f depth chain at (span from to) mine)
+    unfolding bodyMade
+    body-gives out q u p part part′ words len full owner pairs after e x g w h =
+        record {
+          length-is =
+              (let l = record-length 0x02 (Uses ++ Each .bytes) in
+              let n = length-append Uses (Each .bytes) in
+              omega (arith, w .length-is, x .ends, l, n));
+          laid =
+              headed-two out (back out q part) p 0x02 (u + len + 2) Uses (Each .bytes) part′ after (lent-back out 6 q Uses part e (x .bytes))
+              (g ∙ ap (λ (n : ℕ). min (n + 6) (length (back out q part))) (x .ends ∙ zero-add (length Uses))) (w .laid) (omega (arith, w .length-is, x .ends))
+              h;
+          full-is = w .full-is;
+          owner-is = w .owner-is;
+          held-is = w .held-is;
+        }
+
+  -- what stands ahead of a body, by the slices that the code has
+  module _ (r c a b d ahead : Bytes) (y : c ≡ contentOf r) (p₁ : a ≡ restOf c) (p₂ : b ≡ restOf a) (p₃ : d ≡ restOf b) (n : ℕ) (p₄ : n ≡ length c - length d)
+    where
+      pub body-inside : length d ≤ length c
+      body-inside =
+          let i = rest-inside c in
+          let j = rest-inside a in
+          let k = rest-inside b in
+          let s = ap length p₁ in
+          let t = ap length p₂ in
+          let u = ap length p₃ in
+          omega arith
+
+      is-body : d ≡ bodyIn (contentOf r)
+      is-body = p₃ ∙ ap restOf (p₂ ∙ ap restOf (p₁ ∙ ap restOf y))
+
+      pub ahead-is : ahead ≡ take n (drop 0 c) → ahead ≡ aheadIn (contentOf r)
+      ahead-is e = e ∙ rw (p₄, is-body, y)
+
+      pub ahead-long : n ≡ length (aheadIn (contentOf r))
+      ahead-long =
+          p₄ ∙ rw (is-body, y)
+          (sym (length-take (length (contentOf r) - length (bodyIn (contentOf r))) (contentOf r) ∙ least (length (contentOf r)) (length (bodyIn (contentOf r)))))
+        where
+          least : (m k : ℕ) → min (m - k) m ≡ m - k
+          least m k = omega arith
+
+  -- a Mod, of its content c and its body
+  pub mod-gives : (c : Bytes) (m : Made) (ahead out o₁ : Bytes) (f q : ℕ) (part : Bytes) (words : List ℕ) (len full owner pairs : ℕ) (after : Bytes)
+      → ahead ≡ aheadIn c → f ≡ length (aheadIn c) → o₁ ≡ lay out 6 ahead → q ≡ min (f + 6) (length o₁) → Wrote (lent o₁ q) part words len full owner pairs m
+      → after ≡ lay (back o₁ q part) 0 (headBytes (f + len + 2) 0x60) → Wrote out after words (f + len + 6) full owner pairs (modMade c m)
+  unfolding modMade
+  mod-gives c m ahead out o₁ f q part words len full owner pairs after a l d e w h =
+      record {
+        length-is =
+            (let x = record-length 0x60 (aheadIn c ++ m .bytes) in
+            let n = length-append (aheadIn c) (m .bytes) in
+            omega (arith, w .length-is, l, x, n));
+        laid =
+            headed-two out o₁ q 0x60 (f + len + 2) (aheadIn c) (m .bytes) part after (d ∙ ap (lay out 6) a)
+            (e ∙ ap (λ (n : ℕ). min (n + 6) (length o₁)) l) (w .laid) (omega (arith, w .length-is, l)) h;
+        full-is = w .full-is;
+        owner-is = w .owner-is;
+        held-is = w .held-is;
+      }
+
+-- the same, by the slices that the code has
+pub mod-all : (op : Shortening) (card root : Bytes) (f : List ℕ → Span → ℕ → Table → Made) (depth : ℕ) (chain : List ℕ) (at to : ℕ) (mine : Table)
+    (out r : Bytes)
+    → r ≡ between card at to → (c a b d : Bytes) → c ≡ contentOf r → a ≡ restOf c → b ≡ restOf a → d ≡ restOf b → (n : ℕ) → n ≡ length c - length d
+    → (ahead o₁ : Bytes) (q : ℕ) (part : Bytes) (words : List ℕ) (len full owner pairs : ℕ) (after : Bytes) → ahead ≡ take n (drop 0 c) → o₁ ≡ lay out 6 ahead
+    → q ≡ min (n + 6) (length o₁) → Wrote (lent o₁ q) part words len full owner pairs (bodyMade op card root f depth chain at (span (at + 6 + n) to) mine)
+    → after ≡ lay (back o₁ q part) 0 (headBytes (n + len + 2) 0x60)
+    → Wrote out after words (n + len + 6) full owner pairs (modMade (contentOf (between card at to))
+    (bodyMade op card root f depth chain at (span (at + 6 + length (aheadIn (contentOf (between card at to)))) to) mine))
+mod-all op card root f depth chain at to mine out r y c a b d e p₁ p₂ p₃ n p₄ ahead o₁ q part words len full owner pairs after g h i w j =
+    let e′ : c ≡ contentOf (between card at to) = e ∙ ap contentOf y in
+    let l = ahead-long op card root (between card at to) c a b d ahead e′ p₁ p₂ p₃ n p₄ in
+    mod-gives op card root (contentOf (between card at to)) _ ahead out o₁ n q part words len full owner pairs after
+    (ahead-is op card root (between card at to) c a b d ahead e′ p₁ p₂ p₃ n p₄ g) l h i
+    (subst (λ (x : ℕ). Wrote (lent o₁ q) part words len full owner pairs (bodyMade op card root f depth chain at (span (at + 6 + x) to) mine)) l w) j

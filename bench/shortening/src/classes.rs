@@ -1,5 +1,5 @@
-//! Cards for measuring, made: by the number of pairs, one name under many bases, and typical ones by
-//! size.
+//! Cards for measuring, made: by the number of pairs, one name under many bases, many nested modules, deep
+//! types, and typical ones by size.
 use crate::cards::*;
 use std::collections::HashSet;
 
@@ -54,6 +54,43 @@ pub fn one_name(bases: usize) -> Vec<u8> {
     let modules = draws.names(bases, 6);
     let types: Vec<Bytes> = modules.iter().map(|m| ty(&format!("::cues::{m}::Show"))).collect();
     module("m", &[only_types(&types)])
+}
+
+/// So many nested modules, each followed by a declaration with a path under the parent's prefix.
+pub fn nested_modules(count: usize) -> Vec<u8> {
+    let mut draws = Draws(4);
+    let names = draws.names(count, 3);
+    let declarations = |(i, name): (usize, &String)| {
+        let inside = implementation(&[], ty(["::Cue", "::Fade"][i % 2]), &[]);
+        let other = &names[i * 7 % count];
+        [nested(module(name, &[inside])), implementation(&[], ty(&format!("crate::m::{other}")), &[])]
+    };
+    module("m", &names.iter().enumerate().flat_map(declarations).collect::<Vec<_>>())
+}
+
+/// A function with so many formals, each a path type with as many types around it as may be.
+pub fn deep_types(formals: usize) -> Vec<u8> {
+    let mut draws = Draws(5);
+    let names = draws.names(8, 6);
+    // The outermost of these types is 8 deep, the names in the path 3 deeper than the innermost.
+    let deep = |i: usize| {
+        let path = ty(&format!("::cues::{}", names[i % names.len()]));
+        (8..45).fold(path, |inside, _| record(0x2F, &[inside]))
+    };
+    let formals: Vec<Bytes> = (0..formals).map(|i| formal("level", deep(i))).collect();
+    module("m", &[top_fn(function("fade", &[], &formals, none(), none()))])
+}
+
+/// The least card: an ExternMod "a".
+pub fn least() -> Vec<u8> {
+    extern_module("a")
+}
+
+/// A struct and a constant of its type.
+pub fn small() -> Vec<u8> {
+    let fields = named_fields(&[ty("::dafny_runtime::DafnyInt")]);
+    let value = record(0x59, &[ex("::dafny_runtime::int!"), list(&[record(0x4C, &[text("42")])])]);
+    module("m", &[structure("Cue", &[], fields), constant("first", ty("crate::m::Cue"), value)])
 }
 
 /// Declarations as a compiler from Dafny to Rust writes them, as many as make this size.

@@ -1,11 +1,12 @@
-//! Writes the cases of the test, one to a line: ROOT CARD WORDS. They are the cards of own.rs and
-//! as many vectors as fit, in their order, and last lines that are no cases.
+//! Writes the cases of the program test_collecting, one to a line: ROOT CARD WORDS. They are the cards of
+//! own.rs and as many vectors as fit, in their order, and last lines that are no cases.
 use std::cmp::Reverse;
 use std::collections::{BTreeMap, HashSet};
+use std::env;
 use std::process::ExitCode;
-use yardstick::collect::count;
 use yardstick::own;
 use yardstick::text::{self, digits, Vector};
+use yardstick::tree::outermost;
 
 /// The most bytes of all cases.
 const ROOM: usize = 1_195_000;
@@ -40,10 +41,18 @@ fn line(root: &[u8], card: &[u8], words: usize) -> String {
 }
 
 fn main() -> ExitCode {
-    text::with_vectors(run)
+    let file = env::args().nth(1).ok_or("give a file of vectors".to_string());
+    match file.and_then(|file| text::vectors(&file)) {
+        Ok(vectors) => run(vectors),
+        Err(e) => {
+            eprintln!("{e}");
+            return ExitCode::from(2);
+        }
+    }
+    ExitCode::SUCCESS
 }
 
-fn run(vectors: Vec<Vector>) -> ExitCode {
+fn run(vectors: Vec<Vector>) {
     let mut sorts: BTreeMap<String, usize> = BTreeMap::new();
     let mut seen = HashSet::new();
     let mut lines = Vec::new();
@@ -60,7 +69,8 @@ fn run(vectors: Vec<Vector>) -> ExitCode {
     for (i, v) in vectors.iter().enumerate() {
         let line = line(&v.root, &v.card, v.words);
         if seen.insert(line.clone()) {
-            rest.push((i, line, count(&v.card, &v.root, v.words)));
+            let pairs = outermost(&v.card, &v.root, v.words).map(|mapping| mapping.pairs.len());
+            rest.push((i, line, pairs));
         }
     }
     rest.sort_by_key(|(_, line, _)| line.len());
@@ -73,11 +83,11 @@ fn run(vectors: Vec<Vector>) -> ExitCode {
     for (i, line, answer) in rest {
         match answer {
             Ok(pairs) => ranked.push((pairs < most[9], i, line, "vectors: accepted".to_string())),
-            Err(refusal) => {
-                let so_far = refused.entry(refusal.number).or_insert(0);
+            Err((number, _)) => {
+                let so_far = refused.entry(number).or_insert(0);
                 *so_far += 1;
-                if *so_far <= wanted(refusal.number) {
-                    ranked.push((false, i, line, format!("vectors: refused by {}", refusal.number)));
+                if *so_far <= wanted(number) {
+                    ranked.push((false, i, line, format!("vectors: refused by {number}")));
                 }
             }
         }
@@ -103,5 +113,4 @@ fn run(vectors: Vec<Vector>) -> ExitCode {
     for line in NO_CASES {
         println!("{line}");
     }
-    ExitCode::SUCCESS
 }

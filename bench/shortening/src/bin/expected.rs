@@ -1,7 +1,8 @@
-//! The expected output of the cases on standard input, one to a line: ROOT CARD WORDS.
+//! What the program test_collecting should write for the cases on standard input, one to a line:
+//! ROOT CARD WORDS.
 use std::io::{self, Read, Write};
-use yardstick::collect::{collect, prefix, read, Reading, DAFNY_RUNTIME};
-use yardstick::text;
+use yardstick::tree::{bytes, is_runtime, outermost, Path};
+use yardstick::{text, Refusal};
 
 fn case(line: &str) -> Option<(Vec<u8>, Vec<u8>, usize)> {
     let mut fields = line.split(' ');
@@ -14,29 +15,27 @@ fn case(line: &str) -> Option<(Vec<u8>, Vec<u8>, usize)> {
     }
 }
 
-fn lines(card: &[u8], root: &[u8], words: usize) -> Reading<String> {
-    let module = read(card, root, words)?;
-    let prefix = prefix(root, &module);
-    let mapping = collect(&module, &prefix)?;
-    let shown = |base: &[u8]| {
-        if base == prefix {
+fn lines(card: &[u8], root: &[u8], words: usize) -> Result<String, Refusal> {
+    let mapping = outermost(card, root, words)?;
+    let shown = |base: &Path| {
+        if *base == *mapping.prefix {
             "prefix".to_string()
-        } else if base == DAFNY_RUNTIME {
+        } else if is_runtime(base) {
             "runtime".to_string()
         } else {
-            text::digits(base)
+            text::digits(&bytes(base))
         }
     };
     let mut lines = String::new();
     for (name, base) in &mapping.pairs {
-        lines += &format!("pair {} {}\n", text::digits(name), shown(base));
+        lines += &format!("pair {} {}\n", text::digits(name.0), shown(base));
     }
-    for name in &mapping.keys {
-        let base = mapping.chosen(name).map_or("none".to_string(), shown);
-        lines += &format!("chosen {} {base}\n", text::digits(name));
+    for &name in &mapping.keys {
+        let base = mapping.chosen(name).map_or("none".to_string(), |base| shown(base));
+        lines += &format!("chosen {} {base}\n", text::digits(name.0));
     }
     for (name, base) in mapping.uses() {
-        lines += &format!("use {} {}\n", text::digits(name), shown(base));
+        lines += &format!("use {} {}\n", text::digits(name.0), shown(base));
     }
     Ok(lines + &format!("{} pairs\n", mapping.pairs.len()))
 }
@@ -52,7 +51,7 @@ fn main() -> io::Result<()> {
         };
         match lines(&card, &root, words) {
             Ok(lines) => out.write_all(lines.as_bytes())?,
-            Err(refusal) => writeln!(out, "{} {}", refusal.number, refusal.place)?,
+            Err((number, place)) => writeln!(out, "{number} {place}")?,
         }
     }
     out.flush()

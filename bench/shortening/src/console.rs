@@ -1,0 +1,26 @@
+//! The proved code.
+use crate::Answer;
+
+// Nothing checks this against the Rattle source: a slice is a pointer and then a length.
+extern "C" {
+    fn vegashol_shorten(
+        card: *const u8,
+        card_len: usize,
+        root: *const u8,
+        root_len: usize,
+        out: *mut u8,
+        out_len: usize,
+    ) -> u64;
+}
+
+/// It brings its own work words.
+pub fn shorten(card: &[u8], root: &[u8], out: &mut [u8]) -> Answer {
+    // The function asks nothing of its slices but that they are slices.
+    let packed = unsafe {
+        vegashol_shorten(card.as_ptr(), card.len(), root.as_ptr(), root.len(), out.as_mut_ptr(), out.len())
+    };
+    match ((packed >> 32) as u32, packed as u32) {
+        (0, length) => Ok(length as usize),
+        refusal => Err(refusal),
+    }
+}

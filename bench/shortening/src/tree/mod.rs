@@ -1,0 +1,334 @@
+//! Shortening by a typed tree, as the papers state it, in ordinary Rust: the card is read into the
+//! datatypes of the Dafny text, each module is collected and replaced in place, and the tree is written.
+//! It shares nothing with the proved code.
+mod collect;
+mod read;
+mod replace;
+mod write;
+
+use crate::{Refusal, MOST_CARD, MOST_PAIRS, MOST_ROOT, WORDS};
+use std::rc::Rc;
+
+pub use collect::{is_runtime, Mapping};
+pub use write::bytes;
+
+/// A string's bytes, a part of the card.
+#[derive(Clone, Copy, Debug, PartialEq, Eq, Hash)]
+pub struct Text<'a>(pub &'a [u8]);
+
+/// Bytes carried over unread.
+#[derive(Clone, Copy, Debug)]
+pub struct Kept<'a>(pub &'a [u8]);
+
+#[derive(Debug, PartialEq, Eq, Hash)]
+pub enum Path<'a> {
+    Global,
+    Crate,
+    SelfType,
+    Member(Rc<Path<'a>>, Text<'a>),
+}
+
+#[derive(Debug)]
+pub enum Type<'a> {
+    /// U8 to Bool, by its kind.
+    Plain(u16),
+    Identifier(Text<'a>),
+    FromPath(Path<'a>),
+    App(Box<Type<'a>>, Vec<Type<'a>>),
+    Borrowed(Box<Type<'a>>),
+    BorrowedMut(Box<Type<'a>>),
+    Impl(Box<Type<'a>>),
+    Dyn(Box<Type<'a>>),
+    Tuple(Vec<Type<'a>>),
+    Fn(Vec<Type<'a>>, Box<Type<'a>>),
+    Intersection(Box<Type<'a>>, Box<Type<'a>>),
+    Array(Box<Type<'a>>, Option<Text<'a>>),
+    /// Display and base.
+    Synonym(Box<Type<'a>>, Box<Type<'a>>),
+    MetaData(Box<Type<'a>>, Kept<'a>, Kept<'a>),
+}
+
+#[derive(Debug)]
+pub enum Expr<'a> {
+    Raw(Text<'a>),
+    FromType(Type<'a>),
+    Identifier(Text<'a>),
+    Match(Box<Expr<'a>>, Vec<MatchCase<'a>>),
+    Stmt(Box<Expr<'a>>, Box<Expr<'a>>),
+    Block(Box<Expr<'a>>),
+    StructBuild(Box<Expr<'a>>, Vec<AssignIdentifier<'a>>),
+    Tuple(Vec<Expr<'a>>),
+    Unary(Text<'a>, Box<Expr<'a>>, Kept<'a>),
+    Binary(Text<'a>, Box<Expr<'a>>, Box<Expr<'a>>, Kept<'a>),
+    TypeAscription(Box<Expr<'a>>, Type<'a>),
+    TraitCast(Type<'a>, Type<'a>),
+    LiteralInt(Text<'a>),
+    LiteralBool(Kept<'a>),
+    LiteralString(Text<'a>, Kept<'a>, Kept<'a>),
+    DeclareVar(Kept<'a>, Text<'a>, Option<Type<'a>>, Option<Box<Expr<'a>>>),
+    Assign(Kept<'a>, Box<Expr<'a>>),
+    If(Box<Expr<'a>>, Box<Expr<'a>>, Box<Expr<'a>>),
+    Loop(Option<Box<Expr<'a>>>, Box<Expr<'a>>),
+    For(Text<'a>, Box<Expr<'a>>, Box<Expr<'a>>),
+    Labelled(Text<'a>, Box<Expr<'a>>),
+    Break(Option<Text<'a>>),
+    Continue(Option<Text<'a>>),
+    Return(Option<Box<Expr<'a>>>),
+    CallType(Box<Expr<'a>>, Vec<Type<'a>>),
+    Call(Box<Expr<'a>>, Vec<Expr<'a>>),
+    Select(Box<Expr<'a>>, Text<'a>),
+    SelectIndex(Box<Expr<'a>>, Box<Expr<'a>>),
+    FromPath(Path<'a>),
+    FunctionSelect(Box<Expr<'a>>, Text<'a>),
+    Lambda(Vec<Formal<'a>>, Option<Type<'a>>, Box<Expr<'a>>),
+}
+
+#[derive(Debug)]
+pub struct MatchCase<'a> {
+    pattern: Kept<'a>,
+    rhs: Expr<'a>,
+}
+
+#[derive(Debug)]
+pub struct AssignIdentifier<'a> {
+    identifier: Text<'a>,
+    rhs: Expr<'a>,
+}
+
+#[derive(Debug)]
+pub struct Formal<'a> {
+    name: Text<'a>,
+    tpe: Type<'a>,
+}
+
+#[derive(Debug)]
+pub struct TypeParam<'a> {
+    name: Text<'a>,
+    constraints: Vec<Type<'a>>,
+}
+
+#[derive(Debug)]
+pub struct Function<'a> {
+    name: Text<'a>,
+    params: Vec<TypeParam<'a>>,
+    formals: Vec<Formal<'a>>,
+    result: Option<Type<'a>>,
+    body: Option<Expr<'a>>,
+}
+
+#[derive(Debug)]
+pub enum Member<'a> {
+    Raw(Text<'a>),
+    Fn(Text<'a>, Kept<'a>, Kept<'a>, Function<'a>),
+    Type(Text<'a>, Type<'a>),
+    Macro(Expr<'a>),
+}
+
+#[derive(Debug)]
+pub enum Fields<'a> {
+    Named(Vec<Field<'a>>),
+    Nameless(Vec<NamelessField<'a>>),
+}
+
+#[derive(Debug)]
+pub struct Field<'a> {
+    visibility: Kept<'a>,
+    formal: Formal<'a>,
+}
+
+#[derive(Debug)]
+pub struct NamelessField<'a> {
+    visibility: Kept<'a>,
+    tpe: Type<'a>,
+}
+
+#[derive(Debug)]
+pub struct EnumCase<'a> {
+    doc: Text<'a>,
+    name: Text<'a>,
+    fields: Fields<'a>,
+}
+
+/// With what most declarations begin.
+#[derive(Debug)]
+pub struct Documented<'a> {
+    doc: Text<'a>,
+    attributes: Kept<'a>,
+}
+
+#[derive(Debug)]
+pub struct Struct<'a> {
+    about: Documented<'a>,
+    name: Text<'a>,
+    params: Vec<TypeParam<'a>>,
+    fields: Fields<'a>,
+}
+
+#[derive(Debug)]
+pub struct TypeSynonym<'a> {
+    about: Documented<'a>,
+    name: Text<'a>,
+    params: Vec<TypeParam<'a>>,
+    tpe: Type<'a>,
+}
+
+#[derive(Debug)]
+pub struct Constant<'a> {
+    about: Documented<'a>,
+    name: Text<'a>,
+    tpe: Type<'a>,
+    value: Expr<'a>,
+}
+
+#[derive(Debug)]
+pub struct Enum<'a> {
+    about: Documented<'a>,
+    name: Text<'a>,
+    params: Vec<TypeParam<'a>>,
+    variants: Vec<EnumCase<'a>>,
+}
+
+#[derive(Debug)]
+pub struct Impl<'a> {
+    params: Vec<TypeParam<'a>>,
+    tpe: Type<'a>,
+    /// An ImplFor has it, an Impl has not.
+    for_type: Option<Type<'a>>,
+    body: Vec<Member<'a>>,
+}
+
+#[derive(Debug)]
+pub struct Trait<'a> {
+    about: Documented<'a>,
+    params: Vec<TypeParam<'a>>,
+    tpe: Type<'a>,
+    parents: Vec<Type<'a>>,
+    body: Vec<Member<'a>>,
+}
+
+#[derive(Debug)]
+pub struct TopFn<'a> {
+    about: Documented<'a>,
+    visibility: Kept<'a>,
+    function: Function<'a>,
+}
+
+#[derive(Debug)]
+pub struct Use<'a> {
+    visibility: Kept<'a>,
+    path: Path<'a>,
+}
+
+#[derive(Debug)]
+pub enum Declaration<'a> {
+    Module(Module<'a>),
+    Struct(Struct<'a>),
+    Type(TypeSynonym<'a>),
+    Const(Constant<'a>),
+    Enum(Enum<'a>),
+    Impl(Impl<'a>),
+    Trait(Trait<'a>),
+    TopFn(TopFn<'a>),
+    Use(Use<'a>),
+}
+
+#[derive(Debug)]
+pub enum Module<'a> {
+    Mod(Mod<'a>),
+    Extern(Text<'a>),
+}
+
+#[derive(Debug)]
+pub struct Mod<'a> {
+    /// Where its record stands in the card.
+    place: usize,
+    about: Documented<'a>,
+    name: Text<'a>,
+    pub body: Vec<Declaration<'a>>,
+}
+
+impl<'a> Module<'a> {
+    pub fn name(&self) -> Text<'a> {
+        match self {
+            Module::Mod(module) => module.name,
+            Module::Extern(name) => *name,
+        }
+    }
+
+    /// As the text's apply does, under the outermost module's prefix.
+    fn apply(&mut self, root: Rc<Path<'a>>) -> Result<(), Refusal> {
+        let prefix = select(&root, self.name());
+        self.apply_prefix(&prefix)
+    }
+
+    fn apply_prefix(&mut self, prefix: &Rc<Path<'a>>) -> Result<(), Refusal> {
+        let Module::Mod(module) = self else { return Ok(()) };
+        let mapping = Mapping::of(module, prefix);
+        if mapping.pairs.len() > MOST_PAIRS {
+            return Err((8, module.place as u32));
+        }
+        let replacement = mapping.replacement();
+        let uses = mapping.uses();
+        for declaration in &mut module.body {
+            match declaration {
+                // The prefix gets the name twice.
+                Declaration::Module(nested) => {
+                    let name = nested.name();
+                    nested.apply_prefix(&select(&select(prefix, name), name))?;
+                }
+                other => replacement.declaration(other),
+            }
+        }
+        const PUB: Kept = Kept(&[1]);
+        let uses = uses.map(|(name, base)| {
+            Declaration::Use(Use { visibility: PUB, path: Path::Member(base.clone(), name) })
+        });
+        module.body.splice(..0, uses);
+        Ok(())
+    }
+}
+
+/// The path of an item under another.
+pub fn select<'a>(base: &Rc<Path<'a>>, name: Text<'a>) -> Rc<Path<'a>> {
+    Rc::new(Path::Member(base.clone(), name))
+}
+
+/// The card's module and the root's path, or the first of refusals 1 to 7.
+pub fn read<'a>(card: &'a [u8], root: &'a [u8], words: usize) -> Result<(Module<'a>, Rc<Path<'a>>), Refusal> {
+    if words < WORDS {
+        return Err((1, 0));
+    }
+    if card.len() > MOST_CARD {
+        return Err((2, 0));
+    }
+    if root.len() > MOST_ROOT {
+        return Err((3, 0));
+    }
+    let root = read::whole(root, 8).map_err(|_| (3, 0))?;
+    let module = read::whole(card, 48)?;
+    Ok((module, root))
+}
+
+/// What the outermost module collects, or a refusal of it or of reading.
+pub fn outermost<'a>(card: &'a [u8], root: &'a [u8], words: usize) -> Result<Mapping<'a>, Refusal> {
+    let (module, root) = read(card, root, words)?;
+    let prefix = select(&root, module.name());
+    let mapping = match &module {
+        Module::Mod(module) => Mapping::of(module, &prefix),
+        Module::Extern(_) => Mapping::new(&prefix),
+    };
+    match mapping.pairs.len() > MOST_PAIRS {
+        true => Err((8, 0)),
+        false => Ok(mapping),
+    }
+}
+
+/// The output's length, the output being at the front of `out`; or a refusal's number and place.
+pub fn shorten(card: &[u8], root: &[u8], out: &mut [u8], words: usize) -> Result<usize, Refusal> {
+    let (mut module, root) = read(card, root, words)?;
+    module.apply(root)?;
+    let output = bytes(&module);
+    let front = out.get_mut(..output.len()).ok_or((9, 0))?;
+    front.copy_from_slice(&output);
+    Ok(output.len())
+}

@@ -1,0 +1,230 @@
+//! Writing: each datatype as its record.
+use super::*;
+
+/// A record, or records one after the other.
+pub trait Write {
+    fn write(&self, out: &mut Vec<u8>);
+}
+
+/// The bytes of a record.
+pub fn bytes(it: &impl Write) -> Vec<u8> {
+    let mut out = Vec::new();
+    it.write(&mut out);
+    out
+}
+
+/// A record of this kind whose content the function writes.
+fn content(out: &mut Vec<u8>, kind: u16, write: impl FnOnce(&mut Vec<u8>)) {
+    let start = out.len();
+    out.extend([0; 4]);
+    out.extend(kind.to_le_bytes());
+    write(out);
+    let length = (out.len() - start - 4) as u32;
+    out[start..start + 4].copy_from_slice(&length.to_le_bytes());
+}
+
+fn record(out: &mut Vec<u8>, kind: u16, fields: &[&dyn Write]) {
+    content(out, kind, |out| {
+        for field in fields {
+            field.write(out);
+        }
+    });
+}
+
+impl Write for Text<'_> {
+    fn write(&self, out: &mut Vec<u8>) {
+        content(out, 0x01, |out| out.extend(self.0));
+    }
+}
+
+impl Write for Kept<'_> {
+    fn write(&self, out: &mut Vec<u8>) {
+        content(out, 0x03, |out| out.extend(self.0));
+    }
+}
+
+impl<T: Write> Write for Vec<T> {
+    fn write(&self, out: &mut Vec<u8>) {
+        content(out, 0x02, |out| self.iter().for_each(|item| item.write(out)));
+    }
+}
+
+impl<T: Write> Write for Option<T> {
+    fn write(&self, out: &mut Vec<u8>) {
+        content(out, 0x02, |out| self.iter().for_each(|item| item.write(out)));
+    }
+}
+
+impl<T: Write> Write for Box<T> {
+    fn write(&self, out: &mut Vec<u8>) {
+        T::write(self, out);
+    }
+}
+
+impl<T: Write> Write for Rc<T> {
+    fn write(&self, out: &mut Vec<u8>) {
+        T::write(self, out);
+    }
+}
+
+impl Write for Path<'_> {
+    fn write(&self, out: &mut Vec<u8>) {
+        match self {
+            Path::Global => record(out, 0x10, &[]),
+            Path::Crate => record(out, 0x11, &[]),
+            Path::SelfType => record(out, 0x12, &[]),
+            Path::Member(base, name) => record(out, 0x13, &[base, name]),
+        }
+    }
+}
+
+impl Write for Type<'_> {
+    fn write(&self, out: &mut Vec<u8>) {
+        match self {
+            Type::Plain(kind) => record(out, *kind, &[]),
+            Type::Identifier(name) => record(out, 0x2C, &[name]),
+            Type::FromPath(path) => record(out, 0x2D, &[path]),
+            Type::App(base, arguments) => record(out, 0x2E, &[base, arguments]),
+            Type::Borrowed(underlying) => record(out, 0x2F, &[underlying]),
+            Type::BorrowedMut(underlying) => record(out, 0x30, &[underlying]),
+            Type::Impl(underlying) => record(out, 0x31, &[underlying]),
+            Type::Dyn(underlying) => record(out, 0x32, &[underlying]),
+            Type::Tuple(arguments) => record(out, 0x33, &[arguments]),
+            Type::Fn(arguments, result) => record(out, 0x34, &[arguments, result]),
+            Type::Intersection(left, right) => record(out, 0x35, &[left, right]),
+            Type::Array(underlying, size) => record(out, 0x36, &[underlying, size]),
+            Type::Synonym(display, base) => record(out, 0x37, &[display, base]),
+            Type::MetaData(display, copies, overflow) => record(out, 0x38, &[display, copies, overflow]),
+        }
+    }
+}
+
+impl Write for Expr<'_> {
+    fn write(&self, out: &mut Vec<u8>) {
+        match self {
+            Expr::Raw(content) => record(out, 0x40, &[content]),
+            Expr::FromType(tpe) => record(out, 0x41, &[tpe]),
+            Expr::Identifier(name) => record(out, 0x42, &[name]),
+            Expr::Match(matchee, cases) => record(out, 0x43, &[matchee, cases]),
+            Expr::Stmt(stmt, rhs) => record(out, 0x44, &[stmt, rhs]),
+            Expr::Block(underlying) => record(out, 0x45, &[underlying]),
+            Expr::StructBuild(underlying, assignments) => record(out, 0x46, &[underlying, assignments]),
+            Expr::Tuple(arguments) => record(out, 0x47, &[arguments]),
+            Expr::Unary(op, underlying, format) => record(out, 0x48, &[op, underlying, format]),
+            Expr::Binary(op, left, right, format) => record(out, 0x49, &[op, left, right, format]),
+            Expr::TypeAscription(left, tpe) => record(out, 0x4A, &[left, tpe]),
+            Expr::TraitCast(left, tpe) => record(out, 0x4B, &[left, tpe]),
+            Expr::LiteralInt(value) => record(out, 0x4C, &[value]),
+            Expr::LiteralBool(value) => record(out, 0x4D, &[value]),
+            Expr::LiteralString(value, binary, verbatim) => record(out, 0x4E, &[value, binary, verbatim]),
+            Expr::DeclareVar(sort, name, tpe, rhs) => record(out, 0x4F, &[sort, name, tpe, rhs]),
+            Expr::Assign(names, rhs) => record(out, 0x50, &[names, rhs]),
+            Expr::If(condition, then, other) => record(out, 0x51, &[condition, then, other]),
+            Expr::Loop(condition, underlying) => record(out, 0x52, &[condition, underlying]),
+            Expr::For(name, range, body) => record(out, 0x53, &[name, range, body]),
+            Expr::Labelled(label, underlying) => record(out, 0x54, &[label, underlying]),
+            Expr::Break(label) => record(out, 0x55, &[label]),
+            Expr::Continue(label) => record(out, 0x56, &[label]),
+            Expr::Return(value) => record(out, 0x57, &[value]),
+            Expr::CallType(object, arguments) => record(out, 0x58, &[object, arguments]),
+            Expr::Call(object, arguments) => record(out, 0x59, &[object, arguments]),
+            Expr::Select(object, name) => record(out, 0x5A, &[object, name]),
+            Expr::SelectIndex(object, range) => record(out, 0x5B, &[object, range]),
+            Expr::FromPath(path) => record(out, 0x5C, &[path]),
+            Expr::FunctionSelect(object, name) => record(out, 0x5D, &[object, name]),
+            Expr::Lambda(formals, result, body) => record(out, 0x5E, &[formals, result, body]),
+        }
+    }
+}
+
+impl Write for Member<'_> {
+    fn write(&self, out: &mut Vec<u8>) {
+        match self {
+            Member::Raw(content) => record(out, 0x83, &[content]),
+            Member::Fn(doc, attributes, public, function) => {
+                record(out, 0x84, &[doc, attributes, public, function])
+            }
+            Member::Type(name, tpe) => record(out, 0x85, &[name, tpe]),
+            Member::Macro(expr) => record(out, 0x86, &[expr]),
+        }
+    }
+}
+
+impl Write for Fields<'_> {
+    fn write(&self, out: &mut Vec<u8>) {
+        match self {
+            Fields::Named(fields) => record(out, 0x75, &[fields]),
+            Fields::Nameless(fields) => record(out, 0x76, &[fields]),
+        }
+    }
+}
+
+impl Write for Impl<'_> {
+    fn write(&self, out: &mut Vec<u8>) {
+        match &self.for_type {
+            Some(for_type) => record(out, 0x79, &[&self.params, &self.tpe, for_type, &self.body]),
+            None => record(out, 0x7A, &[&self.params, &self.tpe, &self.body]),
+        }
+    }
+}
+
+impl Write for Declaration<'_> {
+    fn write(&self, out: &mut Vec<u8>) {
+        match self {
+            Declaration::Module(module) => record(out, 0x62, &[module]),
+            Declaration::Struct(it) => record(out, 0x63, &[it]),
+            Declaration::Type(it) => record(out, 0x64, &[it]),
+            Declaration::Const(it) => record(out, 0x65, &[it]),
+            Declaration::Enum(it) => record(out, 0x66, &[it]),
+            Declaration::Impl(it) => record(out, 0x67, &[it]),
+            Declaration::Trait(it) => record(out, 0x68, &[it]),
+            Declaration::TopFn(it) => record(out, 0x69, &[it]),
+            Declaration::Use(it) => record(out, 0x6A, &[it]),
+        }
+    }
+}
+
+impl Write for Module<'_> {
+    fn write(&self, out: &mut Vec<u8>) {
+        match self {
+            Module::Mod(it) => record(out, 0x60, &[&it.about, &it.name, &it.body]),
+            Module::Extern(name) => record(out, 0x61, &[name]),
+        }
+    }
+}
+
+impl Write for Documented<'_> {
+    fn write(&self, out: &mut Vec<u8>) {
+        self.doc.write(out);
+        self.attributes.write(out);
+    }
+}
+
+/// Datatypes with one constructor: its kind and its fields, in their order.
+macro_rules! records {
+    ($($name:ident $kind:literal { $($field:ident),* })*) => {$(
+        impl Write for $name<'_> {
+            fn write(&self, out: &mut Vec<u8>) {
+                record(out, $kind, &[$(&self.$field),*]);
+            }
+        }
+    )*};
+}
+
+records! {
+    Struct 0x70 { about, name, params, fields }
+    TypeSynonym 0x71 { about, name, params, tpe }
+    Constant 0x72 { about, name, tpe, value }
+    Enum 0x73 { about, name, params, variants }
+    EnumCase 0x74 { doc, name, fields }
+    Field 0x77 { visibility, formal }
+    NamelessField 0x78 { visibility, tpe }
+    Trait 0x7B { about, params, tpe, parents, body }
+    TopFn 0x7C { about, visibility, function }
+    Function 0x7D { name, params, formals, result, body }
+    Formal 0x7E { name, tpe }
+    TypeParam 0x7F { name, constraints }
+    Use 0x80 { visibility, path }
+    MatchCase 0x81 { pattern, rhs }
+    AssignIdentifier 0x82 { identifier, rhs }
+}

@@ -1,12 +1,15 @@
 -- What a call of the ring leaves: the piece that it answers is what the definition makes. Assumes nothing: these are definitions.
 use mathlib.Core.Path.{_≡_}
-use mathlib.Core.List.{List}
-use Prim.Native.Nat.{ℕ, _+_, _≤_}
+use mathlib.Core.List.{List, []}
+use Prim.Native.Nat.{ℕ, _+_, _-_, _≤_}
 use lib.ListN.{length as long}
-use Rattle.wire.specs.Numbers.{Bytes}
+use Rattle.wire.specs.Numbers.{Bytes, between}
+use Rattle.records.specs.Record.{contentOf}
+use Rattle.operation.specs.declared.Shortening.{Shortening}
 use Rattle.adding.specs.Adds.{table}
+use Rattle.gathering.specs.Gathers.{Span, span, spansIn}
 use Rattle.laying.specs.Lays.{lay}
-use Rattle.modules.specs.Modules.{Made}
+use Rattle.modules.specs.Modules.{Made, made, aheadIn, modMade, eachMade, declarationMade, bodyMade, moduleMade}
 
 -- out and the words after a call, its four answers, and what is made
 pub record Wrote (out after : Bytes) (words : List ℕ) (length full owner pairs : ℕ) (m : Made) : Type 0 where
@@ -22,3 +25,22 @@ pub record Within (from to : ℕ) (card : Bytes) (chain : List ℕ) (left : ℕ)
   pub inside : to ≤ long card
   pub small : long card ≤ 65536
   pub shallow : long chain + left ≤ 48
+
+-- what is made of the module at a place, which has this chain and is at most left deep, of its body and of its declarations, where the words hold its table
+module _ (op : Shortening) (card root : Bytes) (left : ℕ) (chain : List ℕ) (at : ℕ) where
+  abbrev pub declarationAt : Span → (owner pairs : ℕ) → List ℕ → Made
+  declarationAt d owner pairs words =
+      declarationMade op card root (moduleMade op card root (left - 1)) left chain at d owner (table pairs words)
+
+  abbrev pub declarationsAt : (from to pairs : ℕ) → List ℕ → Made
+  declarationsAt from to pairs words =
+      eachMade (declarationMade op card root (moduleMade op card root (left - 1)) left chain at) (spansIn card from to) (made [] 0 at (table pairs words))
+
+  abbrev pub bodyAt : (from to pairs : ℕ) → List ℕ → Made
+  bodyAt from to pairs words =
+      bodyMade op card root (moduleMade op card root (left - 1)) left chain at (span from to) (table pairs words)
+
+  abbrev pub modAt : (to pairs : ℕ) → List ℕ → Made
+  modAt to pairs words =
+      let c : Bytes = contentOf (between card at to) in
+      modMade c (bodyAt (at + 6 + long (aheadIn c)) to pairs words)

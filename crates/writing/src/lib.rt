@@ -7,12 +7,10 @@ ghost use mathlib.Core.Path.{_≡_};
 ghost use mathlib.Core.List.{[], _∷_, _++_};
 ghost use Prim.Native.Nat.{_+_, _-_, _<_, _≤_};
 ghost use lib.ListN.{length, take};
-ghost use Rattle.wire.specs.Numbers.{between};
-ghost use Rattle.records.specs.Record.{contentOf};
 ghost use Rattle.adding.specs.Adds.{table};
-ghost use Rattle.gathering.specs.Gathers.{span, spansIn};
-ghost use Rattle.modules.specs.Modules.{made, firstFull, aheadIn, declarationMade, eachMade, bodyMade, modMade, moduleMade, cardMade};
-ghost use Rattle.writing.specs.Wrote.{Wrote, Within};
+ghost use Rattle.gathering.specs.Gathers.{span};
+ghost use Rattle.modules.specs.Modules.{firstFull, moduleMade, cardMade};
+ghost use Rattle.writing.specs.Wrote.{Wrote, Within, declarationAt, declarationsAt, bodyAt, modAt};
 
 // How long what was made is; the place after that of the first module whose table is full, 0 where none is; whose table the words hold, and its pairs.
 pub struct Piece {
@@ -128,9 +126,7 @@ fn write_mod(
 ) -> Piece
     requires { ⌜ Within at to (now card) (now chain) (left - 1) × (0 < left) × (left ≤ 48) ⌝ }
     ensures { λ r. ⌜ Wrote (now (out .entry)) (now (out .exit)) (now (work .exit)) (r .length) (r .full) (r .owner) (r .pairs)
-        (modMade (contentOf (between (now (card .entry)) at to)) (bodyMade op (now (card .entry)) (now (root .entry))
-        (moduleMade op (now (card .entry)) (now (root .entry)) (left - 1)) left (now (chain .entry)) at
-        (span (at + 6 + length (aheadIn (contentOf (between (now (card .entry)) at to)))) to) (table pairs (now (work .entry))))) ⌝ }
+        (modAt op (now (card .entry)) (now (root .entry)) left (now (chain .entry)) at to pairs (now (work .entry))) ⌝ }
 {
     let c = reader::content(wire::part(card, at, to - at));
     let body = reader::rest(reader::rest(reader::rest(c)));
@@ -176,8 +172,7 @@ fn write_body(
 ) -> Piece
     requires { ⌜ Within 0 to (now card) (now chain) (left - 1) × (0 < left) × (left ≤ 48) × (from ≤ 65542) ⌝ }
     ensures { λ r. ⌜ Wrote (now (out .entry)) (now (out .exit)) (now (work .exit)) (r .length) (r .full) (r .owner) (r .pairs)
-        (bodyMade op (now (card .entry)) (now (root .entry)) (moduleMade op (now (card .entry)) (now (root .entry)) (left - 1)) left (now (chain .entry)) at
-        (span from to) (table pairs (now (work .entry)))) ⌝ }
+        (bodyAt op (now (card .entry)) (now (root .entry)) left (now (chain .entry)) at from to pairs (now (work .entry))) ⌝ }
 {
     let q = laying::least(6, out.len());
     let u = importing::write_imports(op, card, root, chain, work, pairs, &mut out[q..]);
@@ -221,8 +216,7 @@ fn write_declarations(
 ) -> Piece
     requires { ⌜ Within 0 to (now card) (now chain) (left - 1) × (0 < left) × (left ≤ 48) × (from ≤ 65548) ⌝ }
     ensures { λ r. ⌜ Wrote (now (out .entry)) (now (out .exit)) (now (work .exit)) (r .length) (r .full) (r .owner) (r .pairs)
-        (eachMade (declarationMade op (now (card .entry)) (now (root .entry)) (moduleMade op (now (card .entry)) (now (root .entry)) (left - 1))
-        left (now (chain .entry)) at) (spansIn (now (card .entry)) from to) (made [] 0 at (table pairs (now (work .entry))))) ⌝ }
+        (declarationsAt op (now (card .entry)) (now (root .entry)) left (now (chain .entry)) at from to pairs (now (work .entry))) ⌝ }
 {
     let mut i = from;
     let mut p = 0;
@@ -286,8 +280,7 @@ fn write_declaration(
 ) -> Piece
     requires { ⌜ Within (from + 6) to (now card) (now chain) (left - 1) × (0 < left) × (left ≤ 48) ⌝ }
     ensures { λ r. ⌜ Wrote (now (out .entry)) (now (out .exit)) (now (work .exit)) (r .length) (r .full) (r .owner) (r .pairs)
-        (declarationMade op (now (card .entry)) (now (root .entry)) (moduleMade op (now (card .entry)) (now (root .entry)) (left - 1))
-        left (now (chain .entry)) at (span from to) owner (table pairs (now (work .entry)))) ⌝ }
+        (declarationAt op (now (card .entry)) (now (root .entry)) left (now (chain .entry)) at (span from to) owner pairs (now (work .entry))) ⌝ }
 {
     let r = wire::part(card, from, to - from);
     if reader::record_kind(r) == 0x62 {

@@ -6,6 +6,7 @@ pub mod console;
 pub mod own;
 pub mod random;
 mod rows;
+pub mod stated;
 #[cfg(test)]
 mod tests;
 pub mod text;

@@ -1,7 +1,8 @@
 //! What document 01 states of cards, the cases of TestApply, and random cards, for the two in Rust.
 use crate::cards::*;
 use crate::random::Cards;
-use crate::{tree, walk, Answer, MOST_CARD, MOST_TIMES, WORDS};
+use crate::stated::{self, constants, short, wrapped};
+use crate::{tree, walk, Answer, MOST_TIMES, WORDS};
 use std::collections::BTreeSet;
 
 /// The answer of both, and the output.
@@ -29,20 +30,6 @@ fn answer(card: &[u8], lent: usize, words: usize) -> Answer {
 
 fn m(body: &[Bytes]) -> Bytes {
     module("m", body)
-}
-
-fn wrapped(name: &str, of: Bytes) -> Bytes {
-    record(0x37, &[identifier_type(name), of])
-}
-
-fn short(spelled: &str) -> Bytes {
-    wrapped(spelled.rsplit("::").next().unwrap(), ty(spelled))
-}
-
-/// Constants k1, k2 of these types.
-fn constants(types: &[Bytes]) -> Vec<Bytes> {
-    let constant = |(i, of): (usize, &Bytes)| constant(format!("k{}", i + 1), of.clone(), raw());
-    types.iter().enumerate().map(constant).collect()
 }
 
 #[test]
@@ -92,27 +79,24 @@ fn proved_cards() {
     assert_eq!(answer(&[], 100, WORDS), Err((4, 0)));
 }
 
+/// Limits and wrong ports.
 #[test]
-fn limits() {
-    let long = |size: usize| record(0x61, &[text("a".repeat(size - 12))]);
-    assert_eq!(answer(&long(MOST_CARD), MOST_CARD, WORDS), Ok(MOST_CARD));
-    assert_eq!(answer(&long(MOST_CARD + 1), MOST_CARD + 1, WORDS), Err((2, 0)));
-    assert_eq!(answer(&long(13), 13, WORDS - 1), Err((1, 0)));
-    // The names in the path stand 8 deeper than there are Borrowed.
-    let deep = |times| {
-        let of = (0..times).fold(ty("::a::X"), |t, _| record(0x2F, &[t]));
-        m(&[implementation(&[], of, &[])])
-    };
-    assert!(answer(&deep(40), 10_000, WORDS).is_ok());
-    assert!(matches!(answer(&deep(41), 10_000, WORDS), Err((6, _))));
-    // A full table comes before too little room.
+fn stated_cards() {
+    for case in stated::limits().into_iter().chain(stated::wrong_ports()) {
+        let due = (case.answer, case.output);
+        assert_eq!(shorten(&case.card, &path("crate"), case.out, case.words), due, "{}", case.what);
+    }
+}
+
+/// A full table comes before too little room, an outer one before an inner.
+#[test]
+fn full_tables() {
     let pairs =
         |count: usize| m(&(0..count).map(|i| nested(extern_module(i.to_string()))).collect::<Vec<_>>());
     assert_eq!(answer(&pairs(512), 0, WORDS), Err((9, 0)));
     assert_eq!(answer(&pairs(513), 0, WORDS), Err((8, 0)));
-    let inside = m(&[nested(pairs(513))]);
     // Mod, Text, Kept, Text, List, ModDecl.
-    assert_eq!(answer(&inside, 0, WORDS), Err((8, 6 + 6 + 6 + 7 + 6 + 6)));
+    assert_eq!(answer(&m(&[nested(pairs(513))]), 0, WORDS), Err((8, 6 + 6 + 6 + 7 + 6 + 6)));
 }
 
 /// The cards that are measured are accepted with what is lent, and have the pairs they should.
@@ -150,86 +134,11 @@ fn displayed(bytes: &[u8]) -> Bytes {
     out
 }
 
-/// The four cases of TestApply.
 #[test]
 fn test_apply() {
-    let check = |card: &[Bytes], due: &[Bytes]| {
-        assert_eq!(displayed(&output(&module("onemodule", card))), module("onemodule", due));
-    };
-    let id = identifier_type;
-    let apply = |of: Bytes, to: &[Bytes]| record(0x2E, &[of, list(to)]);
-    let t_decl = [param("T", tys(["::dafny_runtime::DafnyType"]))];
-    let t_simple = [param("T", list(&[id("DafnyType")]))];
-    let test = || apply(id("test"), &[id("T")]);
-    check(
-        &[
-            structure("test", &t_decl, named_fields(&[ty("::std::any::Any")])),
-            implementation(&t_decl, test(), &[]),
-            impl_for(&t_decl, ty("::std::any::Any"), apply(ty("crate::onemodule::test"), &[id("T")]), &[]),
-        ],
-        &[
-            use_decl("::dafny_runtime::DafnyType"),
-            use_decl("::std::any::Any"),
-            structure("test", &t_simple, named_fields(&[id("Any")])),
-            implementation(&t_simple, test(), &[]),
-            impl_for(&t_simple, id("Any"), test(), &[]),
-        ],
-    );
-    check(
-        &[impl_for(&t_decl, apply(ty("::dafny_runtime::UpcastObject"), &[id("x")]), test(), &[])],
-        &[
-            use_decl("::dafny_runtime::DafnyType"),
-            use_decl("::dafny_runtime::UpcastObject"),
-            impl_for(&t_simple, apply(id("UpcastObject"), &[id("x")]), test(), &[]),
-        ],
-    );
-    let name = |name: &str| record(0x42, &[text(name)]);
-    let call = |of: Bytes, arguments: &[Bytes]| record(0x59, &[of, list(arguments)]);
-    // Any, Rc, Default as a type and as an expression, rd!, DafnyString, DafnyType.
-    let dummy = |[any, rc, default, default_expr, rd, string, tpe]: [Bytes; 7]| {
-        let of = record(0x58, &[name("something"), list(&[record(0x32, &[default])])]);
-        let default = call(record(0x5D, &[default_expr, text("default")]), &[]);
-        let value = call(of, &[default, call(rd, &[name("obj")])]);
-        let declared = [kept(&[0]), text("doit"), list(&[apply(rc, &[id("unknown")])]), list(&[value])];
-        let ascribed = record(0x4A, &[record(0x41, &[string]), tpe]);
-        constant("dummy", any, record(0x44, &[record(0x4F, &declared), ascribed]))
-    };
-    check(
-        &[dummy([
-            ty("::std::any::Any"),
-            ty("::std::rc::Rc"),
-            ty("::std::default::Default"),
-            ex("::std::default::Default"),
-            ex("::dafny_runtime::rd!"),
-            ty("::dafny_runtime::DafnyString"),
-            ty("::dafny_runtime::DafnyType"),
-        ])],
-        &[
-            use_decl("::std::any::Any"),
-            use_decl("::std::rc::Rc"),
-            use_decl("::std::default::Default"),
-            use_decl("::dafny_runtime::rd"),
-            use_decl("::dafny_runtime::DafnyString"),
-            use_decl("::dafny_runtime::DafnyType"),
-            dummy([
-                id("Any"),
-                id("Rc"),
-                id("Default"),
-                name("Default"),
-                name("rd!"),
-                id("DafnyString"),
-                id("DafnyType"),
-            ]),
-        ],
-    );
-    let case = |intern| {
-        [
-            trait_(&[], id("Something"), none(), &[]),
-            constant("dummyExtern", ty("crate::anothermodule::Something"), raw()),
-            constant("dummyIntern", intern, raw()),
-        ]
-    };
-    check(&case(ty("crate::onemodule::Something")), &case(id("Something")));
+    for (card, due) in stated::test_apply() {
+        assert_eq!(displayed(&output(&card)), due);
+    }
 }
 
 #[test]

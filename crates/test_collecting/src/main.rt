@@ -7,7 +7,7 @@ use chains::Want;
 use libc::STDOUT_FILENO;
 use operation::Shortening;
 use test_text::Line;
-ghost use Prim.Native.Nat.{_≤_, _<_};
+ghost use Prim.Native.Nat.{_<_};
 
 fn say(text: &[u8]) {
     io::write_all(STDOUT_FILENO, text);
@@ -15,30 +15,6 @@ fn say(text: &[u8]) {
 
 fn say_number(n: usize) {
     io::print_decimal(STDOUT_FILENO, n as u64);
-}
-
-fn digit(n: u8) -> u8
-    requires { ⌜ n ≤ 15 ⌝ }
-{
-    if n < 10 {
-        return b'0' + n;
-    }
-    b'a' + (n - 10)
-}
-
-// Bytes in hexadecimal; - for none.
-fn say_bytes(s: &[u8]) {
-    if s.len() == 0 {
-        say(b"-");
-        return;
-    }
-    let mut i = 0;
-    while i < s.len() {
-        let b = s[i];
-        let pair = [digit(b / 16), digit(b % 16)];
-        say(&pair);
-        i += 1;
-    }
 }
 
 // Word i of pair g: where its name stands, how long it is, or its base; 0 where there is no such pair.
@@ -75,13 +51,13 @@ fn say_base(card: &[u8], root: &[u8], chain: &[usize], work: &[u32], g: usize) {
         say(b"runtime\n");
         return;
     }
-    say_bytes(path);
+    test_input::say_bytes(path);
     say(b"\n");
 }
 
 fn say_pair(card: &[u8], root: &[u8], chain: &[usize], work: &[u32], g: usize) {
     say(b"pair ");
-    say_bytes(name_of(card, work, g));
+    test_input::say_bytes(name_of(card, work, g));
     say(b" ");
     say_base(card, root, chain, work, g);
 }
@@ -110,7 +86,7 @@ fn say_choice(card: &[u8], root: &[u8], chain: &[usize], work: &[u32], g: usize)
     }
     let name = name_of(card, work, g);
     say(b"chosen ");
-    say_bytes(name);
+    test_input::say_bytes(name);
     let c = choosing::chosen(Shortening::Upstream, card, root, chain, work, name);
     if c == 0 {
         say(b" none\n");
@@ -127,7 +103,7 @@ fn say_use(card: &[u8], root: &[u8], chain: &[usize], work: &[u32], g: usize) {
         return;
     }
     say(b"use ");
-    say_bytes(name_of(card, work, g));
+    test_input::say_bytes(name_of(card, work, g));
     say(b" ");
     say_base(card, root, chain, work, c);
 }

@@ -4,6 +4,7 @@ use libc::STDERR_FILENO;
 use libc::STDIN_FILENO;
 use libc::STDOUT_FILENO;
 ghost use mathlib.Core.Path.{_≡_};
+ghost use Prim.Native.Nat.{_≤_};
 ghost use lib.ListN.{length};
 ghost use Rattle.io.specs.Counts.{Counts};
 
@@ -42,6 +43,53 @@ pub fn no_case() {
         STDOUT_FILENO,
         b"no case: write ROOT CARD WORDS, the first two in hexadecimal, - for no bytes\n",
     );
+}
+
+fn digit(n: u8) -> u8
+    requires { ⌜ n ≤ 15 ⌝ }
+{
+    if n < 10 {
+        return b'0' + n;
+    }
+    b'a' + (n - 10)
+}
+
+// Puts the digits of s at the front of text, as far as it has room; answers how many.
+fn put_digits(s: &[u8], text: &mut [u8]) -> usize {
+    let room = text.len() / 2;
+    let mut i = 0;
+    while i < room {
+        if s.len() <= i {
+            return 2 * i;
+        }
+        let b = s[i];
+        text[2 * i] = digit(b / 16);
+        text[2 * i + 1] = digit(b % 16);
+        i += 1;
+    }
+    2 * i
+}
+
+// At most 1024 bytes of s, from a place on, in hexadecimal.
+fn say_some(s: &[u8], from: usize) {
+    let mut text = [0u8; 2048];
+    let n = put_digits(wire::part(s, from, s.len()), &mut text);
+    io::write_all(STDOUT_FILENO, wire::part(&text, 0, n));
+}
+
+// Bytes in hexadecimal; - for none.
+pub fn say_bytes(s: &[u8]) {
+    if s.len() == 0 {
+        io::write_all(STDOUT_FILENO, b"-");
+    }
+    let mut i = 0;
+    while i < s.len() {
+        say_some(s, i);
+        if s.len() - i <= 1024 {
+            return;
+        }
+        i += 1024;
+    }
 }
 
 // A refusal: its number and its place.

@@ -1,0 +1,186 @@
+//! Cases whose answers are stated, by the Dafny text or by document 01, and not worked out.
+use crate::cards::*;
+use crate::{Answer, MOST_CARD, WORDS};
+
+pub struct Stated {
+    pub what: &'static str,
+    pub card: Bytes,
+    /// How many bytes are lent, and how many words; the root is crate.
+    pub out: usize,
+    pub words: usize,
+    pub answer: Answer,
+    pub output: Bytes,
+}
+
+const LENT: usize = 65536;
+
+fn m(body: &[Bytes]) -> Bytes {
+    module("m", body)
+}
+
+fn accepted(what: &'static str, card: Bytes, output: Bytes) -> Stated {
+    Stated { what, card, out: LENT, words: WORDS, answer: Ok(output.len()), output }
+}
+
+fn refused(what: &'static str, card: Bytes, words: usize, number: u32, place: u32) -> Stated {
+    Stated { what, card, out: LENT, words, answer: Err((number, place)), output: Bytes::new() }
+}
+
+/// A type or an expression that displays its name and holds what it was.
+pub fn wrapped(name: &str, of: Bytes) -> Bytes {
+    record(0x37, &[identifier_type(name), of])
+}
+
+pub fn short(spelled: &str) -> Bytes {
+    wrapped(spelled.rsplit("::").next().unwrap(), ty(spelled))
+}
+
+/// Constants k1, k2 of these types.
+pub fn constants(types: &[Bytes]) -> Vec<Bytes> {
+    let constant = |(i, of): (usize, &Bytes)| constant(format!("k{}", i + 1), of.clone(), raw());
+    types.iter().enumerate().map(constant).collect()
+}
+
+/// Document 01, "Run only".
+pub fn limits() -> Vec<Stated> {
+    let long = |size: usize| record(0x61, &[text("a".repeat(size - 12))]);
+    let borrowed = |times, of| (0..times).fold(of, |t, _| record(0x2F, &[t]));
+    // The path's innermost record stands 8 deeper than there are Borrowed.
+    let deep =
+        |times, of, uses: &[Bytes]| m(&[uses, &[implementation(&[], borrowed(times, of), &[])]].concat());
+    // Ahead of it: heads of Mod, body, ImplDecl, Impl, TypeFromPath and two paths, three fields of Mod, an empty list.
+    let innermost = |times: u32| 7 * 6 + (6 + 6 + 7) + 6 + 6 * times;
+    let pairs =
+        |count: usize| m(&(0..count).map(|i| nested(extern_module(i.to_string()))).collect::<Vec<_>>());
+    vec![
+        accepted("32,768 bytes", long(MOST_CARD), long(MOST_CARD)),
+        refused("32,769 bytes", long(MOST_CARD + 1), WORDS, 2, 0),
+        accepted("2,048 words", long(13), long(13)),
+        refused("2,047 words", long(13), WORDS - 1, 1, 0),
+        accepted("48 deep", deep(40, ty("::a::X"), &[]), deep(40, short("::a::X"), &[use_decl("::a::X")])),
+        refused("49 deep", deep(41, ty("::a::X"), &[]), WORDS, 6, innermost(41)),
+        accepted("512 pairs", pairs(512), pairs(512)),
+        refused("513 pairs", pairs(513), WORDS, 8, 0),
+    ]
+}
+
+/// Document 01, "Plausible wrong ports": a card that each would answer otherwise.
+pub fn wrong_ports() -> Vec<Stated> {
+    let with = |uses: &[&str], rest: &[Bytes]| {
+        let uses: Vec<Bytes> = uses.iter().map(|path| use_decl(path)).collect();
+        m(&[&uses, rest].concat())
+    };
+    let field = |rest: &[Bytes]| [&[structure("S", &[], named_fields(&[ty("::a::X")]))], rest].concat();
+    let function = |of| [top_fn(function("f", &[], &[], list(&[record(0x2F, &[of])]), none()))];
+    vec![
+        accepted(
+            "uses sorted by name",
+            with(&[], &constants(&[ty("::a::Z"), ty("::a::A")])),
+            with(&["::a::Z", "::a::A"], &constants(&[short("::a::Z"), short("::a::A")])),
+        ),
+        accepted(
+            "a struct's fields collected",
+            with(&[], &field(&constants(&[ty("::b::X")]))),
+            with(&["::b::X"], &field(&constants(&[short("::b::X")]))),
+        ),
+        accepted(
+            "wrapped once in a Fn",
+            with(&[], &function(ty("::B"))),
+            with(&["::B"], &function(wrapped("B", short("::B")))),
+        ),
+        accepted(
+            "dafny_runtime ahead of the prefix",
+            with(&[], &constants(&[ty("::dafny_runtime::X"), ty("crate::m::X")])),
+            with(&[], &constants(&[ty("::dafny_runtime::X"), short("crate::m::X")])),
+        ),
+        accepted(
+            "a synonym's base collected",
+            with(&[], &constants(&[wrapped("Y", ty("::a::X")), ty("::b::X")])),
+            with(&["::b::X"], &constants(&[wrapped("Y", ty("::a::X")), short("::b::X")])),
+        ),
+    ]
+}
+
+/// The four cases of TestApply: a module, and what it should be with each synonym taken as its display.
+pub fn test_apply() -> Vec<(Bytes, Bytes)> {
+    let one = |body: &[Bytes]| module("onemodule", body);
+    let id = identifier_type;
+    let apply = |of: Bytes, to: &[Bytes]| record(0x2E, &[of, list(to)]);
+    let t_decl = [param("T", tys(["::dafny_runtime::DafnyType"]))];
+    let t_simple = [param("T", list(&[id("DafnyType")]))];
+    let test = || apply(id("test"), &[id("T")]);
+    let structure = |params: &[Bytes], of| {
+        let field = record(0x77, &[kept(&[1]), formal("a", of)]);
+        structure("test", params, record(0x75, &[list(&[field])]))
+    };
+    let first = (
+        one(&[
+            structure(&t_decl, ty("::std::any::Any")),
+            implementation(&t_decl, test(), &[]),
+            impl_for(&t_decl, ty("::std::any::Any"), apply(ty("crate::onemodule::test"), &[id("T")]), &[]),
+        ]),
+        one(&[
+            use_decl("::dafny_runtime::DafnyType"),
+            use_decl("::std::any::Any"),
+            structure(&t_simple, id("Any")),
+            implementation(&t_simple, test(), &[]),
+            impl_for(&t_simple, id("Any"), test(), &[]),
+        ]),
+    );
+    let second = (
+        one(&[impl_for(&t_decl, apply(ty("::dafny_runtime::UpcastObject"), &[id("x")]), test(), &[])]),
+        one(&[
+            use_decl("::dafny_runtime::DafnyType"),
+            use_decl("::dafny_runtime::UpcastObject"),
+            impl_for(&t_simple, apply(id("UpcastObject"), &[id("x")]), test(), &[]),
+        ]),
+    );
+    let name = |name: &str| record(0x42, &[text(name)]);
+    let call = |of: Bytes, arguments: &[Bytes]| record(0x59, &[of, list(arguments)]);
+    // Any, Rc, Default as a type and as an expression, rd!, DafnyString, DafnyType.
+    let dummy = |[any, rc, default, default_expr, rd, string, tpe]: [Bytes; 7]| {
+        let of = record(0x58, &[name("something"), list(&[record(0x32, &[default])])]);
+        let default = call(record(0x5D, &[default_expr, text("default")]), &[]);
+        let value = call(of, &[default, call(rd, &[name("obj")])]);
+        let declared = [kept(&[0]), text("doit"), list(&[apply(rc, &[id("unknown")])]), list(&[value])];
+        let ascribed = record(0x4A, &[record(0x41, &[string]), tpe]);
+        constant("dummy", any, record(0x44, &[record(0x4F, &declared), ascribed]))
+    };
+    let third = (
+        one(&[dummy([
+            ty("::std::any::Any"),
+            ty("::std::rc::Rc"),
+            ty("::std::default::Default"),
+            ex("::std::default::Default"),
+            ex("::dafny_runtime::rd!"),
+            ty("::dafny_runtime::DafnyString"),
+            ty("::dafny_runtime::DafnyType"),
+        ])]),
+        one(&[
+            use_decl("::std::any::Any"),
+            use_decl("::std::rc::Rc"),
+            use_decl("::std::default::Default"),
+            use_decl("::dafny_runtime::rd"),
+            use_decl("::dafny_runtime::DafnyString"),
+            use_decl("::dafny_runtime::DafnyType"),
+            dummy([
+                id("Any"),
+                id("Rc"),
+                id("Default"),
+                name("Default"),
+                name("rd!"),
+                id("DafnyString"),
+                id("DafnyType"),
+            ]),
+        ]),
+    );
+    let nothing = || record(0x40, &[text("nothing")]);
+    let fourth = |intern| {
+        one(&[
+            trait_(&[], id("Something"), none(), &[]),
+            constant("dummyExtern", ty("crate::anothermodule::Something"), nothing()),
+            constant("dummyIntern", intern, nothing()),
+        ])
+    };
+    vec![first, second, third, (fourth(ty("crate::onemodule::Something")), fourth(id("Something")))]
+}

@@ -1,0 +1,268 @@
+// Answers cases on standard input, line by line, ROOT CARD OUTLEN WORKLEN: the root's and the card's bytes in hexadecimal, - for none, and how many
+// bytes of out buffer and work words are lent; what stands from ` = ` on is passed over. Writes a line for each: `0 LENGTH BYTES`, or a refusal's
+// number and place.
+mod memory;
+
+use answers::Answer;
+use libc::STDERR_FILENO;
+use libc::STDIN_FILENO;
+use libc::STDOUT_FILENO;
+ghost use mathlib.Core.Path.{_≡_};
+ghost use Prim.Native.Nat.{_≤_};
+ghost use lib.ListN.{length};
+
+// So many bytes of text are at hand; whether anything has been read; whether there may be more.
+struct Input {
+    have: usize,
+    begun: bool,
+    open: bool,
+}
+
+// Room for a line, for the bytes of one of its fields, and for the work words.
+fn line_room() -> [u8; 262144]
+    ensures { λ r. ⌜ 262144 ≡ length r ⌝ }
+{
+    [0; 262144]
+}
+
+fn field_room() -> [u8; 131072]
+    ensures { λ r. ⌜ 131072 ≡ length r ⌝ }
+{
+    [0; 131072]
+}
+
+fn word_room() -> [u32; 131072]
+    ensures { λ r. ⌜ 131072 ≡ length r ⌝ }
+{
+    [0; 131072]
+}
+
+fn say(text: &[u8]) {
+    io::write_all(STDOUT_FILENO, text);
+}
+
+// The answer, where the lent memory is as it promises.
+fn say_answer(a: Answer, out: &[u8], work: &[u32]) {
+    if !memory::is_kept(a, out, work) {
+        say(b"broken promise: the out buffer or the work words are not as they should be\n");
+        return;
+    }
+    match a {
+        Answer::Shortened(n) => {
+            say(b"0 ");
+            io::print_decimal(STDOUT_FILENO, n as u64);
+            say(b" ");
+            test_input::say_bytes(wire::part(out, 0, n));
+            say(b"\n");
+        }
+        _ => test_input::say_refusal(a),
+    }
+}
+
+fn answer(card: &[u8], root: &[u8], out: &mut [u8], work: &mut [u32]) {
+    memory::fill(out);
+    memory::fill_words(work);
+    let a = shortening::shorten(card, root, out, work);
+    say_answer(a, out, work);
+}
+
+fn least(a: usize, b: usize) -> usize
+    ensures { λ r. ⌜ r ≤ b ⌝ }
+{
+    if a < b {
+        return a;
+    }
+    b
+}
+
+// With so much lent, or all there is.
+fn lend(card: &[u8], root: &[u8], out: &mut [u8], bytes: usize, work: &mut [u32], words: usize) {
+    let n = least(bytes, out.len());
+    let m = least(words, work.len());
+    answer(card, root, &mut out[..n], &mut work[..m]);
+}
+
+// What stands ahead of ` = `, or all.
+fn asked(line: &[u8]) -> &[u8] {
+    let n = test_text::find(line, b'=');
+    if n == 0 {
+        return line;
+    }
+    if wire::same(wire::part(line, n - 1, 3), b" = ") {
+        return wire::part(line, 0, n - 1);
+    }
+    line
+}
+
+// One case; the buffers of root and card have room for any line's.
+fn case(line: &[u8], root: &mut [u8], card: &mut [u8], out: &mut [u8], work: &mut [u32]) {
+    let question = asked(line);
+    let rest = test_text::beyond(question, b' ');
+    let sizes = test_text::beyond(rest, b' ');
+    let first = test_text::until(question, b' ');
+    let second = test_text::until(rest, b' ');
+    let third = test_text::until(sizes, b' ');
+    let fourth = test_text::beyond(sizes, b' ');
+    if !test_text::is_hex(first)
+        || !test_text::is_hex(second)
+        || !test_text::is_number(third)
+        || !test_text::is_number(fourth)
+    {
+        say(
+            b"no case: write ROOT CARD OUTLEN WORKLEN in less than 262144 characters, the first two in hexadecimal, - for no bytes\n",
+        );
+        return;
+    }
+    let n = test_text::decode(first, root);
+    let m = test_text::decode(second, card);
+    lend(
+        wire::part(card, 0, m),
+        wire::part(root, 0, n),
+        out,
+        test_text::decimal(third),
+        work,
+        test_text::decimal(fourth),
+    );
+}
+
+// The whole lines at the front of the text, one after the other; answers where the rest starts.
+fn lines(text: &[u8], root: &mut [u8], card: &mut [u8], out: &mut [u8], work: &mut [u32]) -> usize {
+    let mut i = 0;
+    while i < text.len() {
+        let line = test_text::line_at(text, i);
+        let end = i + line.len();
+        if text.len() <= end {
+            return i;
+        }
+        case(line, root, card, out, work);
+        i = end + 1;
+    }
+    i
+}
+
+// Brings what stands from a place to another to the front; answers how many bytes that are.
+fn bring(text: &mut [u8], from: usize, to: usize) -> usize {
+    let end = least(to, text.len());
+    let mut n = 0;
+    let mut i = from;
+    while i < end {
+        text[n] = text[i];
+        n += 1;
+        i += 1;
+    }
+    n
+}
+
+// Answers the whole lines among so many bytes of text and brings the rest to the front; answers how many bytes that are. Where the rest fills all of the
+// text, its line is too long, and a byte that no case has stands for it until its end is read.
+fn take_lines(
+    text: &mut [u8],
+    all: usize,
+    root: &mut [u8],
+    card: &mut [u8],
+    out: &mut [u8],
+    work: &mut [u32],
+) -> usize {
+    let done = lines(wire::part(text, 0, all), root, card, out, work);
+    let left = bring(text, done, all);
+    if left < text.len() {
+        return left;
+    }
+    if text.len() == 0 {
+        return 0;
+    }
+    text[0] = b'?';
+    1
+}
+
+// What is left when no more can be read: a line without an end, or none.
+fn finish(
+    line: &[u8],
+    begun: bool,
+    failed: bool,
+    root: &mut [u8],
+    card: &mut [u8],
+    out: &mut [u8],
+    work: &mut [u32],
+) {
+    if failed {
+        io::write_all(STDERR_FILENO, b"standard input can't be read\n");
+        return;
+    }
+    if !begun {
+        io::write_all(
+            STDERR_FILENO,
+            b"no cases: give them on standard input, one to a line, as ROOT CARD OUTLEN WORKLEN\n",
+        );
+        return;
+    }
+    if 0 < line.len() {
+        case(line, root, card, out, work);
+    }
+}
+
+fn closed() -> Input {
+    Input {
+        have: 0,
+        begun: true,
+        open: false,
+    }
+}
+
+// One read, behind what is at hand, and the lines that are whole then.
+fn turn(
+    text: &mut [u8],
+    input: Input,
+    root: &mut [u8],
+    card: &mut [u8],
+    out: &mut [u8],
+    work: &mut [u32],
+) -> Input {
+    let have = input.have;
+    if text.len() <= have {
+        return closed();
+    }
+    let got = libc::read(STDIN_FILENO, &mut text[have..]);
+    if got <= 0 {
+        finish(
+            wire::part(text, 0, have),
+            input.begun,
+            got < 0,
+            root,
+            card,
+            out,
+            work,
+        );
+        return closed();
+    }
+    let all = have + io::count(got, wire::part(text, have, text.len()));
+    let left = take_lines(text, all, root, card, out, work);
+    Input {
+        have: left,
+        begun: true,
+        open: true,
+    }
+}
+
+// A proved loop has to end, and nothing says that the input does: so many turns are never used up.
+fn run(text: &mut [u8], root: &mut [u8], card: &mut [u8], out: &mut [u8], work: &mut [u32]) {
+    let mut input = Input {
+        have: 0,
+        begun: false,
+        open: true,
+    };
+    let mut turns = u64::MAX;
+    while 0 < turns && input.open {
+        input = turn(text, input, root, card, out, work);
+        turns -= 1;
+    }
+}
+
+fn main() {
+    let mut text = line_room();
+    let mut root = field_room();
+    let mut card = field_room();
+    let mut out = test_input::room();
+    let mut work = word_room();
+    run(&mut text, &mut root, &mut card, &mut out, &mut work);
+}

@@ -18,7 +18,7 @@ struct Input {
     open: bool,
 }
 
-// Room for a line, for the bytes of one of its fields, and for the work words.
+// Room for a line, for the bytes that any of its fields says, and for the work words.
 fn line_room() -> [u8; 262144]
     ensures { λ r. ⌜ 262144 ≡ length r ⌝ }
 {
@@ -94,8 +94,8 @@ fn asked(line: &[u8]) -> &[u8] {
     line
 }
 
-// One case; the buffers of root and card have room for any line's.
-fn case(line: &[u8], root: &mut [u8], card: &mut [u8], out: &mut [u8], work: &mut [u32]) {
+// One case.
+fn case(line: &[u8], out: &mut [u8], work: &mut [u32]) {
     let question = asked(line);
     let rest = test_text::beyond(question, b' ');
     let sizes = test_text::beyond(rest, b' ');
@@ -113,11 +113,13 @@ fn case(line: &[u8], root: &mut [u8], card: &mut [u8], out: &mut [u8], work: &mu
         );
         return;
     }
-    let n = test_text::decode(first, root);
-    let m = test_text::decode(second, card);
+    let mut root = field_room();
+    let mut card = field_room();
+    let n = test_text::decode(first, &mut root);
+    let m = test_text::decode(second, &mut card);
     lend(
-        wire::part(card, 0, m),
-        wire::part(root, 0, n),
+        wire::part(&card, 0, m),
+        wire::part(&root, 0, n),
         out,
         test_text::decimal(third),
         work,
@@ -126,7 +128,7 @@ fn case(line: &[u8], root: &mut [u8], card: &mut [u8], out: &mut [u8], work: &mu
 }
 
 // The whole lines at the front of the text, one after the other; answers where the rest starts.
-fn lines(text: &[u8], root: &mut [u8], card: &mut [u8], out: &mut [u8], work: &mut [u32]) -> usize {
+fn lines(text: &[u8], out: &mut [u8], work: &mut [u32]) -> usize {
     let mut i = 0;
     while i < text.len() {
         let line = test_text::line_at(text, i);
@@ -134,7 +136,7 @@ fn lines(text: &[u8], root: &mut [u8], card: &mut [u8], out: &mut [u8], work: &m
         if text.len() <= end {
             return i;
         }
-        case(line, root, card, out, work);
+        case(line, out, work);
         i = end + 1;
     }
     i
@@ -155,15 +157,8 @@ fn bring(text: &mut [u8], from: usize, to: usize) -> usize {
 
 // Answers the whole lines among so many bytes of text and brings the rest to the front; answers how many bytes that are. Where the rest fills all of the
 // text, its line is too long, and a byte that no case has stands for it until its end is read.
-fn take_lines(
-    text: &mut [u8],
-    all: usize,
-    root: &mut [u8],
-    card: &mut [u8],
-    out: &mut [u8],
-    work: &mut [u32],
-) -> usize {
-    let done = lines(wire::part(text, 0, all), root, card, out, work);
+fn take_lines(text: &mut [u8], all: usize, out: &mut [u8], work: &mut [u32]) -> usize {
+    let done = lines(wire::part(text, 0, all), out, work);
     let left = bring(text, done, all);
     if left < text.len() {
         return left;
@@ -176,15 +171,7 @@ fn take_lines(
 }
 
 // What is left when no more can be read: a line without an end, or none.
-fn finish(
-    line: &[u8],
-    begun: bool,
-    failed: bool,
-    root: &mut [u8],
-    card: &mut [u8],
-    out: &mut [u8],
-    work: &mut [u32],
-) {
+fn finish(line: &[u8], begun: bool, failed: bool, out: &mut [u8], work: &mut [u32]) {
     if failed {
         io::write_all(STDERR_FILENO, b"standard input can't be read\n");
         return;
@@ -197,7 +184,7 @@ fn finish(
         return;
     }
     if 0 < line.len() {
-        case(line, root, card, out, work);
+        case(line, out, work);
     }
 }
 
@@ -210,33 +197,18 @@ fn closed() -> Input {
 }
 
 // One read, behind what is at hand, and the lines that are whole then.
-fn turn(
-    text: &mut [u8],
-    input: Input,
-    root: &mut [u8],
-    card: &mut [u8],
-    out: &mut [u8],
-    work: &mut [u32],
-) -> Input {
+fn turn(text: &mut [u8], input: Input, out: &mut [u8], work: &mut [u32]) -> Input {
     let have = input.have;
     if text.len() <= have {
         return closed();
     }
     let got = libc::read(STDIN_FILENO, &mut text[have..]);
     if got <= 0 {
-        finish(
-            wire::part(text, 0, have),
-            input.begun,
-            got < 0,
-            root,
-            card,
-            out,
-            work,
-        );
+        finish(wire::part(text, 0, have), input.begun, got < 0, out, work);
         return closed();
     }
     let all = have + io::count(got, wire::part(text, have, text.len()));
-    let left = take_lines(text, all, root, card, out, work);
+    let left = take_lines(text, all, out, work);
     Input {
         have: left,
         begun: true,
@@ -245,7 +217,7 @@ fn turn(
 }
 
 // A proved loop has to end, and nothing says that the input does: so many turns are never used up.
-fn run(text: &mut [u8], root: &mut [u8], card: &mut [u8], out: &mut [u8], work: &mut [u32]) {
+fn run(text: &mut [u8], out: &mut [u8], work: &mut [u32]) {
     let mut input = Input {
         have: 0,
         begun: false,
@@ -253,16 +225,14 @@ fn run(text: &mut [u8], root: &mut [u8], card: &mut [u8], out: &mut [u8], work: 
     };
     let mut turns = u64::MAX;
     while 0 < turns && input.open {
-        input = turn(text, input, root, card, out, work);
+        input = turn(text, input, out, work);
         turns -= 1;
     }
 }
 
 fn main() {
     let mut text = line_room();
-    let mut root = field_room();
-    let mut card = field_room();
     let mut out = test_input::room();
     let mut work = word_room();
-    run(&mut text, &mut root, &mut card, &mut out, &mut work);
+    run(&mut text, &mut out, &mut work);
 }

@@ -14,28 +14,33 @@ use Rattle.factor_paths.specs.Apply.{mappings}
 use Rattle.factor_paths.proofs.Mappings.{Good, noMapping-good, add-good}
 
 module _ (op : Operation) where
-  module _ (R : Mapping → Mapping → Type 0) (S : Path) (h : (o a : Mapping) (k : Name) → R o a → R (Add op o k S) (Add op a k S)) where
-    trait-keeps : (o a : Mapping) (t : Record) → R o a → R (VisitTraitName op o t S) (VisitTraitName op a t S)
+  module _ (R : Mapping → Mapping → Type 0) (S : Path) (o a : Mapping) (r : R o a) (h : (k : Name) → R (Add op o k S) (Add op a k S)) where
+    trait-adds : (t : Record) → R (VisitTraitName op o t S) (VisitTraitName op a t S)
     unfolding VisitTraitName
-    trait-keeps o a t r =
+    trait-adds t =
         let at : (Record → Mapping) → (Record → Mapping) → Type 0 = λ f g. R (f t) (g t) in
-        either at (is 0x2E t) (either R (is 0x2C (field 0 t)) (h o a _ r) r) (either at (is 0x2C t) (h o a _ r) r)
+        either at (is 0x2E t) (either R (is 0x2C (field 0 t)) (h _) r) (either at (is 0x2C t) (h _) r)
 
-    -- what adding one name's path in the one and in the other keeps between two mappings, the visit of a declaration itself keeps
-    pub declaration-keeps : (o a : Mapping) (d : Record) → R o a → R (VisitModDeclSingle op o d S) (VisitModDeclSingle op a d S)
+    -- what holds between two mappings, and once one name's path is added in the one and in the other, holds after the visit of a declaration itself
+    pub declaration-adds : (d : Record) → R (VisitModDeclSingle op o d S) (VisitModDeclSingle op a d S)
     unfolding VisitModDeclSingle
-    declaration-keeps o a d r =
+    declaration-adds d =
         let at : (Record → Mapping) → (Record → Mapping) → Type 0 = λ f g. R (f d) (g d) in
-        either at (is 0x62 d) (h o a _ r)
-        (either at (is 0x63 d) (h o a _ r)
-        (either at (is 0x64 d) (h o a _ r)
-        (either at (is 0x65 d) (h o a _ r)
-        (either at (is 0x66 d) (h o a _ r)
+        either at (is 0x62 d) (h _)
+        (either at (is 0x63 d) (h _)
+        (either at (is 0x64 d) (h _)
+        (either at (is 0x65 d) (h _)
+        (either at (is 0x66 d) (h _)
         (either at (is 0x67 d) r
-        (either at (is 0x68 d) (trait-keeps o a (field 3 (field 0 d)) r)
-        (either at (is 0x69 d) (h o a _ r)
+        (either at (is 0x68 d) (trait-adds (field 3 (field 0 d)))
+        (either at (is 0x69 d) (h _)
         (either at (is 0x6A d) r
         r))))))))
+
+  -- what adding one name's path in the one and in the other keeps between two mappings, the visit of a declaration itself keeps
+  pub declaration-keeps : (R : Mapping → Mapping → Type 0) (S : Path) → ((o a : Mapping) (k : Name) → R o a → R (Add op o k S) (Add op a k S))
+      → (o a : Mapping) (d : Record) → R o a → R (VisitModDeclSingle op o d S) (VisitModDeclSingle op a d S)
+  declaration-keeps R S h o a d r = declaration-adds R S o a r (λ k. h o a k r) d
 
   -- where something hereditary holds of what is visited, adding need keep P only for paths of which it holds
   module _ {S : Record → Type 0} {SA : Records → Type 0} (H : Hereditary S SA) (P : Mapping → Type 0)

@@ -80,7 +80,7 @@ module _ (op : Operation) (most : ℕ) where
   Law n = (s : Bytes) (m : Record) (p : Path) (at place : ℕ) → Fits m mod′ → Starts s at m → fullTable op most n m p at ≡ some place → FullAt s m p place
 
   -- a declaration, as fullTable searches it
-  abbrev inDecl : ℕ → Path → Record → ℕ → Option ℕ
+  abbrev pub inDecl : ℕ → Path → Record → ℕ → Option ℕ
   inDecl n p d place = match d (case 0x62 (λ r. fullTable op most n (field 0 r) (nested op p (nameOf (field 0 r))) (fieldAt place 0 r)) ∷ []) (λ r. none)
 
   module _ (n : ℕ) (law : Law n) (s : Bytes) (p : Path) (place : ℕ) where
@@ -108,7 +108,7 @@ module _ (op : Operation) (most : ℕ) where
         (λ x t. let h : some x ≡ some place = rw t at e in let g = decl-full d o (f .0) (first-starts st) (t ∙ h) in (0, g .0, g .1))
 
   -- an ExternMod is not full
-  extern-none : (n : ℕ) (m : Record) (p : Path) (at : ℕ) → Fits m (one 0x61) → fullTable op most n m p at ≡ none
+  pub extern-none : (n : ℕ) (m : Record) (p : Path) (at : ℕ) → Fits m (one 0x61) → fullTable op most n m p at ≡ none
   unfolding fullTable
   extern-none zero m p at f = refl
   extern-none (suc n) m p at f = rw (one-kind 0x61 (kind m) (fits-stands m (one 0x61) f))

@@ -2,3 +2,4 @@ pub mod Accepted
 pub mod Places
 pub mod Pinned
 pub mod Full
+pub mod Few

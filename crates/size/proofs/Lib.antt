@@ -5,3 +5,4 @@ pub mod Visited
 pub mod Mapped
 pub mod Bound
 pub mod Least
+pub mod Pairs

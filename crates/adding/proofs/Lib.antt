@@ -5,3 +5,5 @@ pub mod Puts
 pub mod Keeps
 pub mod There
 pub mod Stores
+pub mod Again
+pub mod Settles

@@ -53,14 +53,17 @@ module _ (words : List ℕ) (n b at len base : ℕ) where
   put-other i d = getD-set-other Linked (4 * b + 3) (4 * i + 3) _ 0 (λ e. d (let z : i ≡ b = omega arith in z))
 
   -- the first three words of another pair stay: no fourth word is one of them
-  pub put-first : (i k : ℕ) → i < n → k < 3 → getD Put (4 * i + k) 0 ≡ getD words (4 * i + k) 0
+  pub put-others : (i k : ℕ) → (i ≡ n → ⊥) → k < 3 → getD Put (4 * i + k) 0 ≡ getD words (4 * i + k) 0
   unfolding putPair
-  put-first i k h l =
+  put-others i k d l =
       getD-set-other Linked (4 * b + 3) (4 * i + k) _ 0 (λ e. absurd (omega arith))
       ∙ getD-set-other Three (4 * n + 3) (4 * i + k) _ 0 (λ e. absurd (omega arith))
-      ∙ getD-set-other (set (set words (4 * n) at) (4 * n + 1) len) (4 * n + 2) (4 * i + k) base 0 (λ e. absurd (omega arith))
-      ∙ getD-set-other (set words (4 * n) at) (4 * n + 1) (4 * i + k) len 0 (λ e. absurd (omega arith))
-      ∙ getD-set-other words (4 * n) (4 * i + k) at 0 (λ e. absurd (omega arith))
+      ∙ getD-set-other (set (set words (4 * n) at) (4 * n + 1) len) (4 * n + 2) (4 * i + k) base 0 (λ e. d (let z : i ≡ n = omega arith in z))
+      ∙ getD-set-other (set words (4 * n) at) (4 * n + 1) (4 * i + k) len 0 (λ e. d (let z : i ≡ n = omega arith in z))
+      ∙ getD-set-other words (4 * n) (4 * i + k) at 0 (λ e. d (let z : i ≡ n = omega arith in z))
+
+  pub put-first : (i k : ℕ) → i < n → k < 3 → getD Put (4 * i + k) 0 ≡ getD words (4 * i + k) 0
+  put-first i k h l = put-others i k (λ e. absurd (omega arith)) l
 
   module _ (r : n < room words) where
     -- those of the new pair

@@ -6,6 +6,7 @@ ghost use Prim.Native.Nat.{_<_, _^_};
 ghost use Rattle.prefix.specs.Prefix.{scope};
 ghost use Rattle.chains.specs.Chains.{room};
 ghost use Rattle.adding.specs.Adds.{started, putPair, table, added};
+ghost use Rattle.adding.specs.Settles.{putAgain, settled};
 
 // An empty table: no bucket has a pair.
 pub fn start(work: &mut [u32])
@@ -69,4 +70,31 @@ pub fn add(
     }
     put(work, n, b, at, len, w as u32);
     n + 1
+}
+
+// The pair that i pairs stand ahead of stays where it stands, and becomes the newest of its name's bucket.
+fn put_again(op: Shortening, card: &[u8], work: &mut [u32], i: usize)
+    requires { ⌜ i < room (now work) ⌝ }
+    ensures { λ r. ⌜ now (work .exit) ≡ putAgain op (now (card .entry)) (now (work .entry)) i ⌝ }
+{
+    let k = 4 * i;
+    let at = work[k];
+    let len = work[k + 1];
+    let base = work[k + 2];
+    let name = wire::part(card, wire::word(at), wire::word(len));
+    let b = chains::bucket(op, work, name);
+    put(work, i, b, at, len, base);
+}
+
+// The chains are set anew over words that are full of pairs: as many buckets as pairs.
+pub fn settle(op: Shortening, card: &[u8], work: &mut [u32])
+    ensures { λ r. ⌜ now (work .exit) ≡ settled op (now (card .entry)) (now (work .entry)) ⌝ }
+{
+    start(work);
+    let pairs = chains::room(work);
+    let mut i = 0;
+    while i < pairs {
+        put_again(op, card, work, i);
+        i += 1;
+    }
 }

@@ -1,1 +1,2 @@
 pub mod Owner
+pub mod Beside

@@ -3,7 +3,11 @@ use operation::Shortening;
 ghost use mathlib.Core.Path.{_≡_};
 ghost use Rattle.prefix.specs.Prefix.{scope};
 ghost use Rattle.adding.specs.Adds.{table};
-ghost use Rattle.tables.specs.Tables.{tableOf};
+ghost use mathlib.Core.Bool.{_&&_};
+ghost use Prim.Native.Nat.{_*_, min};
+ghost use lib.ListN.{length};
+ghost use lib.Dec.{eqb};
+ghost use Rattle.tables.specs.Tables.{tableOf, hasRoom};
 
 // The place in the card of the module whose table words hold, and how many pairs it has.
 pub struct Held {
@@ -11,7 +15,8 @@ pub struct Held {
     pub pairs: usize,
 }
 
-// The table of the module at a place. Words that hold it already, as `held` says, are left: no record is walked.
+// The table of the module at a place. Words that hold it already, as `held` says, are left: no record is walked. A table that is collected and not full
+// is settled: the words behind its pairs are free.
 pub fn table_of(
     op: Shortening,
     card: &[u8],
@@ -29,8 +34,34 @@ pub fn table_of(
         return held;
     }
     let n = collecting::collect_module(op, card, at, left, root, chain, work);
+    if n <= chains::room(work) {
+        let m = 4 * n;
+        adding::settle(op, card, &mut work[..m]);
+    }
     Held {
         owner: at,
         pairs: n,
     }
+}
+
+// How many of the words the pairs of a table take: four each, as far as the words reach.
+pub fn own_words(work: &[u32], pairs: usize) -> usize
+    ensures { λ r. ⌜ r ≡ min (4 * pairs) (length (now (work .entry))) ⌝ }
+{
+    let n = work.len();
+    if n / 4 < pairs {
+        return n;
+    }
+    4 * pairs
+}
+
+// Whether the words hold the table of the module at a place, and have room behind it for whatever so many bytes collect.
+pub fn has_room_beside(work: &[u32], held: Held, at: usize, n: usize) -> bool
+    ensures { λ r. ⌜ r ≡ (eqb (held .owner) at && hasRoom (table (held .pairs) (now (work .entry))) n) ⌝ }
+{
+    if held.owner != at {
+        return false;
+    }
+    let k = own_words(work, held.pairs);
+    n / 18 <= chains::room(&work[k..])
 }

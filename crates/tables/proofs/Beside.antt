@@ -1,0 +1,26 @@
+-- Room beside a table, by the code's tests. Assumes nothing.
+use mathlib.Core.Path.{_≡_, ap}
+use mathlib.Core.Bool.{false, _&&_}
+use mathlib.Core.List.{List}
+use Prim.Native.Nat.{ℕ, _-_, _*_, _/_, min}
+use native.Mathlib.Omega.{arith}
+use lib.ListN.{length, take, drop, length-take, length-drop}
+use lib.Dec.{eqb, leb}
+use borrow.Author.Tests.{eq-eqb, ne-eqb}
+use Rattle.chains.specs.Chains.{room}
+use Rattle.adding.specs.Adds.{table}
+use Rattle.tables.specs.Tables.{hasRoom}
+
+module _ (owner at pairs n : ℕ) (words : List ℕ) where
+  pub beside-not : (owner ≡ at → ⊥) → false ≡ (eqb owner at && hasRoom (table pairs words) n)
+  beside-not d = rw (ne-eqb owner at d)
+
+  pub beside-is : owner ≡ at → (k r : ℕ) → k ≡ min (4 * pairs) (length words) → r ≡ room (take (length words - k) (drop k words))
+      → leb (n / 18) r ≡ (eqb owner at && hasRoom (table pairs words) n)
+  unfolding hasRoom
+  beside-is e k r x y =
+      let a = length-take (length words - k) (drop k words) in
+      let b = length-drop k words in
+      let c = length-drop (4 * pairs) words in
+      let z : r ≡ room (drop (4 * pairs) words) = omega arith in
+      rw (eq-eqb owner at e) (ap (leb (n / 18)) z)

@@ -1,14 +1,15 @@
 -- WHAT IS WRITTEN OF A MODULE over the bytes of a sound card: applyPrefix's module, or the place of the first table that is full. Assumes nothing.
 use mathlib.Core.Path.{_≡_, refl, ap, ap₂, sym, subst, _∙_}
-use mathlib.Core.Bool.{true, false}
+use mathlib.Core.Bool.{true, false, _&&_, and-eq-true-iff}
 use mathlib.Core.List.{List, [], _∷_, _++_}
 use mathlib.Core.Option.{none, Option·none-ne-some}
-use Prim.Native.Nat.{ℕ, zero, suc, _+_, _/_, _<_, _≤_, min}
+use Prim.Native.Nat.{ℕ, zero, suc, _+_, _-_, _*_, _/_, _<_, _≤_, min}
 use native.Mathlib.Nat.{add-zero, le-refl}
 use native.Mathlib.Omega.{arith}
-use lib.ListN.{length, length-append}
-use lib.Dec.{ltb}
-use borrow.Author.Tests.{ltb-true, ltb-false, lt-ltb, le-ltb}
+use lib.ListN.{length, take, length-append, length-drop, take-append-drop}
+use lib.Seq.{length-take-le, take-append-seam}
+use lib.Dec.{eqb, ltb}
+use borrow.Author.Tests.{eqb-true, leb-true, ltb-true, ltb-false, lt-ltb, le-ltb}
 use Rattle.wire.specs.Numbers.{Bytes}
 use Rattle.records.specs.Record.{Record, Records, leaf, node, nil, _▸_, recordBytes, encode, encodeAll, kind, nth, is, first}
 use Rattle.records.specs.Record.{setNth, mapAll, deep, deepAll}
@@ -31,29 +32,30 @@ use Rattle.factor_paths.proofs.Mappings.{Good}
 use Rattle.factor_paths.proofs.Visits.{mappings-good}
 use Rattle.factor_paths.proofs.Modules.{ModFields, mod-fields, module-walk, extern-walk}
 use Rattle.outcome.specs.FullTable.{fullTable}
+use Rattle.outcome.proofs.Few.{few-none}
 use Rattle.operation.specs.declared.Shortening.{Shortening}
 use Rattle.operation.specs.Operations.{operationOf}
 use Rattle.operation.proofs.Lawful.{names-of}
 use Rattle.prefix.specs.Prefix.{Scope}
 use Rattle.chains.specs.Chains.{room}
-use Rattle.pairs.proofs.Means.{means-count}
-use Rattle.adding.specs.Adds.{Table}
+use Rattle.adding.specs.Adds.{Table, table}
+use Rattle.adding.specs.Settles.{ownWords, freeWords}
 use Rattle.fields.specs.Fields.{namePlace}
-use Rattle.gathering.specs.Gathers.{span}
+use Rattle.gathering.specs.Gathers.{span, gathered}
 use Rattle.gathering.specs.Tabled.{Tabled}
 use Rattle.gathering.proofs.Parts.{spansOf, spans-are}
 use Rattle.gathering.proofs.Mapped.{module-tabled}
 use Rattle.gathering.proofs.Chosen.{uses-final}
-use Rattle.tables.specs.Tables.{tableOf}
-use Rattle.tables.proofs.Owner.{owner-tabled}
+use Rattle.tables.specs.Tables.{tableOf, hasRoom}
+use Rattle.tables.proofs.Owner.{owner-has}
 use Rattle.rewriting.specs.Imports.{importsBytes}
 use Rattle.rewriting.specs.Rewrites.{declaration}
 use Rattle.rewriting.proofs.Walks.{rewrite-walks}
-use Rattle.modules.specs.Modules.{Made, made, nestedMade, eachMade, modMade, declarationMade, bodyMade, moduleMade}
+use Rattle.modules.specs.Modules.{Made, made, nestedMade, besideMade, innerMade, eachMade, modMade, declarationMade, bodyMade, moduleMade}
 use Rattle.modules.proofs.Keeps.{table-length}
 use Rattle.modules.proofs.Inner.{ends-within, inner-prefix, inner-canonical}
 use Rattle.modules.proofs.Contents.{span-there, alone-kind, holds-one, one-ends, Mod, Ahead, mod-content, ahead-is, body-ends, body-starts, mod-whole}
-use Rattle.modules.proofs.States.{Holds, holds-on, After, same, other, scopeAt, Stands, Applied, walked, Declared, Declares}
+use Rattle.modules.proofs.States.{found, Ready, settled-ready, Holds, holds-on, After, same, other, scopeAt, Stands, Applied, walked, Declared, Declares}
 use Rattle.modules.proofs.Each.{all-declared}
 
 -- a record is at least one deep
@@ -62,15 +64,46 @@ unfolding deep
 deep-some (leaf k b) = omega arith
 deep-some (node k c) = omega arith
 
--- a table that means a mapping has more pairs than there is room for where the mapping has
-more-pairs : (s : Scope) (t : Table) (a : Mapping) → Tabled s t a → ltb (room (t .words)) (t .count) ≡ ltb (room (t .words)) (pairs (a .provenance))
+-- a ready table has more pairs than there is room for where the mapping has
+more-pairs : (s : Scope) (t : Table) (a : Mapping) → Ready s t a → ltb (room (t .words)) (t .count) ≡ ltb (room (t .words)) (pairs (a .provenance))
 more-pairs s t a h =
     let r = room (t .words) in
     let n = pairs (a .provenance) in
-    let c = h .has .count in
-    let d = means-count (s .op) (h .pairs) a (h .means) in
+    let c = h .count in
     by-test (ltb r n) (λ e. lt-ltb r (t .count) (let l = ltb-true r n e in omega arith) ∙ sym e)
     (λ e. le-ltb r (t .count) (let l = ltb-false r n e in omega arith) ∙ sym e)
+
+-- the words of pairs that there is room for are full of them
+own-room : (t : Table) → t .count ≤ room (t .words) → room (ownWords t) ≡ t .count
+own-room t r = let l = length-take-le (4 * t .count) (t .words) (omega arith) in omega arith
+
+-- a table that is ready stays so with other words behind its pairs
+ready-beside : (s : Scope) (t : Table) (a : Mapping) (words : List ℕ) → t .count ≤ room (t .words) → Ready s t a
+    → length (ownWords t ++ words) ≡ length (t .words) → Ready s (table (t .count) (ownWords t ++ words)) a
+ready-beside s t a words r h e =
+    let l : length (ownWords t) ≡ 4 * t .count = length-take-le (4 * t .count) (t .words) (omega arith) in
+    let k : room (ownWords t ++ words) ≡ room (t .words) = ap (λ (x : ℕ). min (x / 4) 65535) e in
+    let c = h .count in
+    let o : take (4 * t .count) (ownWords t ++ words) ≡ ownWords t =
+    ap (λ (x : ℕ). take x (ownWords t ++ words)) (sym l) ∙ take-append-seam (ownWords t) words in
+    record {
+      count = omega arith;
+      tabled = λ z. subst (λ (x : List ℕ). Tabled s (table (t .count) x) a) (sym o) (h .tabled r);
+    }
+
+-- room for what so many bytes collect is room for what fewer do
+room-has : (held : Table) (n : ℕ) {k : ℕ} → hasRoom held n ≡ true → k ≤ n → k / 18 ≤ room (freeWords held)
+unfolding hasRoom
+room-has held n e l = let g = leb-true (n / 18) (room (freeWords held)) e in omega arith
+
+-- what is made of a module that goes at most so deep, by so many words
+abbrev Law : Shortening → (card root : Bytes) → (wide depth : ℕ) → Type 0
+Law op card root wide depth =
+    (n : ℕ) (chain : List ℕ) → length chain + depth ≤ 48 → (at : ℕ) (m : Record) (S : Path) → Stands op card root chain at m S → deep m ≤ depth → deep m ≤ n
+    → (owner : ℕ) (held : Table) → length (held .words) ≡ wide
+    → (owner ≡ at → Ready (scopeAt op card root chain at) held (mappings (operationOf op) m S))
+    → Applied op card root (min (wide / 4) 65535) n chain at m S owner held
+    (moduleMade op card root depth chain (span at (at + length (encode m))) owner held)
 
 module _ (op : Shortening) (card root : Bytes) (small : length card ≤ 65536) (rooted : length root ≤ 65536) (wide : ℕ) where
   abbrev Op : Operation
@@ -82,14 +115,8 @@ module _ (op : Shortening) (card root : Bytes) (small : length card ≤ 65536) (
   room-is : (words : List ℕ) → length words ≡ wide → room words ≡ Most
   room-is words e = ap (λ (x : ℕ). min (x / 4) 65535) e
 
-  abbrev Law : ℕ → Type 0
-  Law depth =
-      (n : ℕ) (chain : List ℕ) → length chain + depth ≤ 48 → (at : ℕ) (m : Record) (S : Path) → Stands op card root chain at m S → deep m ≤ depth → deep m ≤ n
-      → (owner : ℕ) (held : Table) → length (held .words) ≡ wide → (owner ≡ at → Tabled (scopeAt op card root chain at) held (mappings Op m S))
-      → Applied op card root Most n chain at m S owner held (moduleMade op card root depth chain (span at (at + length (encode m))) owner held)
-
   -- one module, given the law of what goes less deep
-  module _ (depth n : ℕ) (below : Law depth) (chain : List ℕ) (fewer : length chain + suc depth ≤ 48) (at : ℕ) (m : Record) (S : Path)
+  module _ (depth n : ℕ) (below : (w : ℕ) → Law op card root w depth) (chain : List ℕ) (fewer : length chain + suc depth ≤ 48) (at : ℕ) (m : Record) (S : Path)
       (here : Stands op card root chain at m S) (shallow : deep m ≤ suc depth) where
     abbrev Scoped : Scope
     Scoped = scopeAt op card root chain at
@@ -109,39 +136,45 @@ module _ (op : Shortening) (card root : Bytes) (small : length card ≤ 65536) (
     chain-length : length Chain ≡ length chain + 1
     chain-length = length-append chain (namePlace card at ∷ [])
 
-    mine-tabled : (owner : ℕ) (held : Table) → (owner ≡ at → Tabled Scoped held Mapped) → Tabled Scoped (Mine owner held) Mapped
-    mine-tabled owner held t =
-        owner-tabled Scoped (suc depth) at owner held Mapped t
-        (module-tabled Scoped at m (here .starts) (here .fits) (here .canonical) (suc depth) shallow small S (here .prefixed) (here .prefix-is) (held .words))
+    mine-ready : (owner : ℕ) (held : Table) → (owner ≡ at → Ready Scoped held Mapped) → Ready Scoped (Mine owner held) Mapped
+    mine-ready owner held t =
+        owner-has Scoped (suc depth) at owner held (λ (u : Table). Ready Scoped u Mapped) t
+        (settled-ready Scoped (gathered Scoped (suc depth) at (held .words)) Mapped
+        (module-tabled Scoped at m (here .starts) (here .fits) (here .canonical) (suc depth) shallow small S (here .prefixed) (here .prefix-is) (held .words)))
 
     mine-long : (owner : ℕ) (held : Table) → length (held .words) ≡ wide → length (Mine owner held .words) ≡ wide
     mine-long owner held w = table-length Scoped (suc depth) at owner held ∙ w
 
-    count-says : (t : Table) → Tabled Scoped t Mapped → length (t .words) ≡ wide
+    count-says : (t : Table) → Ready Scoped t Mapped → length (t .words) ≡ wide
         → ltb (room (t .words)) (t .count) ≡ ltb Most (pairs (Mapped .provenance))
     count-says t h w = more-pairs Scoped t Mapped h ∙ ap (λ (r : ℕ). ltb r (pairs (Mapped .provenance))) (room-is (t .words) w)
 
     -- where there is room for its pairs
     module _ (few : ltb Most (pairs (Mapped .provenance)) ≡ false) where
-      fits-room : (t : Table) → Tabled Scoped t Mapped → length (t .words) ≡ wide → t .count ≤ room (t .words)
+      fits-room : (t : Table) → Ready Scoped t Mapped → length (t .words) ≡ wide → t .count ≤ room (t .words)
       fits-room t h w = ltb-false (room (t .words)) (t .count) (count-says t h w ∙ few)
 
       -- a declaration that holds no module
       plain-bytes : (d : Record) → Fits d (kinds 0x62 0x6A) → Canonical d → deep d ≤ suc depth → length (encode d) ≤ 65536 → (t : Table)
-          → Tabled Scoped t Mapped → length (t .words) ≡ wide
-          → declaration Scoped (t .words) (suc depth) (encode d) ≡ encode (walk Op (pathsToRemove Op m S) false 1 d)
+          → Ready Scoped t Mapped → length (t .words) ≡ wide
+          → declaration Scoped (ownWords t) (suc depth) (encode d) ≡ encode (walk Op (pathsToRemove Op m S) false 1 d)
       unfolding declaration pathsToRemove
-      plain-bytes d f h l b t tabled w =
+      plain-bytes d f h l b t ready w =
+          let r = fits-room t ready w in
+          let o = own-room t r in
           rw (le-ltb 65536 (length (encode d)) b, le-ltb 48 (suc depth) (omega arith))
-          (rewrite-walks Scoped t Mapped tabled good (fits-room t tabled w) S (here .prefixed) (here .prefix-is) (suc depth) false 1 d (kinds 0x62 0x6A) f h l)
+          (rewrite-walks Scoped (table (t .count) (ownWords t)) Mapped (ready .tabled r) good (omega arith) S (here .prefixed) (here .prefix-is)
+          (suc depth) false 1 d (kinds 0x62 0x6A) f h l)
 
       -- the uses
-      uses-bytes : (t : Table) → Tabled Scoped t Mapped → length (t .words) ≡ wide
-          → importsBytes Scoped (t .words) (t .count) ≡ encodeAll (imports Op m S)
+      uses-bytes : (t : Table) → Ready Scoped t Mapped → length (t .words) ≡ wide
+          → importsBytes Scoped (ownWords t) (t .count) ≡ encodeAll (imports Op m S)
       unfolding importsBytes imports pathsToRemove
-      uses-bytes t tabled w =
-          rw (le-ltb 65536 (length card) small, le-ltb (room (t .words)) (t .count) (fits-room t tabled w))
-          (sym (uses-final Scoped t Mapped tabled good (fits-room t tabled w) S (here .prefixed) (here .prefix-is)))
+      uses-bytes t ready w =
+          let r = fits-room t ready w in
+          let o = own-room t r in
+          rw (le-ltb 65536 (length card) small, le-ltb (room (ownWords t)) (t .count) (omega arith))
+          (sym (uses-final Scoped (table (t .count) (ownWords t)) Mapped (ready .tabled r) good (omega arith) S (here .prefixed) (here .prefix-is)))
 
       abbrev State : (to owner : ℕ) → Table → Type 0
       State to owner held = Holds Scoped at to Mapped owner held
@@ -154,10 +187,10 @@ module _ (op : Shortening) (card root : Bytes) (small : length card ≤ 65536) (
       plain-declared : (d : Record) (from : ℕ) → is 0x62 d ≡ false → Fits d (kinds 0x62 0x6A) → Canonical d → Starts card from d → deep d ≤ suc depth
           → at < from → (owner : ℕ) (held : Table) → length (held .words) ≡ wide → State from owner held
           → Declared op card root Most n chain at m S wide d from
-          (made (declaration Scoped (Mine owner held .words) (suc depth) (encode d)) 0 at (Mine owner held))
+          (made (declaration Scoped (ownWords (Mine owner held)) (suc depth) (encode d)) 0 at (Mine owner held))
       unfolding walkDecl
       plain-declared d from j f h st l b owner held w s =
-          let t = mine-tabled owner held (s .tabled) in
+          let t = mine-ready owner held (s .tabled) in
           let e = ends-within card from d st in
           let x = mine-long owner held w in
           record {
@@ -195,19 +228,66 @@ module _ (op : Shortening) (card root : Bytes) (small : length card ≤ 65536) (
         nested-holds owner held s N (same x y) = rw (x, y) (holds-on (from + 6 + length (encode q)) (omega arith) s)
         nested-holds owner held s N (other y) = record { from = omega arith; before = y .before; tabled = λ z. absurd (omega arith) }
 
-        nested-declared : deep q ≤ depth → deep q ≤ n → (owner : ℕ) (held : Table) → length (held .words) ≡ wide → State from owner held
-            → Declared op card root Most n chain at m S wide (node 0x62 (q ▸ nil)) from (nestedMade (Nested owner held))
+        abbrev Nesting : Made → Type 0
+        Nesting = Declared op card root Most n chain at m S wide (node 0x62 (q ▸ nil)) from
+
+        -- with all words
+        alone : deep q ≤ depth → deep q ≤ n → (owner : ℕ) (held : Table) → length (held .words) ≡ wide → State from owner held
+            → Nesting (nestedMade (Nested owner held))
         unfolding nestedMade walkDecl setNth first encodeAll nth
-        nested-declared l k owner held w s =
+        alone l k owner held w s =
             let c = chain-length in
             let e = one-ends 0x62 q from in
-            let i = below n Chain (omega arith) (from + 6) q Prefix stands l k owner held w (λ z. absurd (omega arith)) in
+            let i = below wide n Chain (omega arith) (from + 6) q Prefix stands l k owner held w (λ z. absurd (omega arith)) in
             record {
               full = rw add-zero (i .full);
               bytes = λ z. ap (recordBytes 0x62) (i .bytes (rw add-zero at z)) ∙ holds-one 0x62 (applyPrefix Op n q Prefix);
               words = i .words ∙ w;
               holds = rw e (nested-holds owner held s (Nested owner held) (i .after));
             }
+
+        -- beside the module's table: no module in it has too many pairs for the words that are left
+        abbrev Beside : Table → Made
+        Beside held = Nested 65537 (table 0 (freeWords held))
+
+        beside : deep q ≤ depth → deep q ≤ n → (held : Table) → length (held .words) ≡ wide → State from at held
+            → length (encode q) / 18 ≤ room (freeWords held) → Nesting (besideMade at held (Beside held))
+        unfolding besideMade walkDecl setNth first encodeAll nth
+        beside l k held w s r =
+            let c = chain-length in
+            let e = one-ends 0x62 q from in
+            let t = s .tabled refl in
+            let fit = fits-room held t w in
+            let free = freeWords held in
+            let u = length-drop (4 * held .count) (held .words) in
+            let inside = ends-within card from (node 0x62 (q ▸ nil)) st in
+            let i = below (length free) n Chain (omega arith) (from + 6) q Prefix stands l k 65537 (table 0 free) refl (λ z. absurd (omega arith)) in
+            let less = few-none Op (room free) n q Prefix (from + 6) f r in
+            let none-full = few-none Op Most n q Prefix (from + 6) f (let z : length (encode q) / 18 ≤ Most = omega arith in z) in
+            let long : length (ownWords held ++ Beside held .held .words) ≡ length (held .words) =
+            length-append (ownWords held) (Beside held .held .words) ∙ ap (λ (x : ℕ). length (ownWords held) + x) (i .words)
+            ∙ sym (length-append (ownWords held) free) ∙ ap length (take-append-drop (4 * held .count) (held .words)) in
+            record {
+              full = rw add-zero (i .full ∙ ap found less ∙ sym (ap found none-full));
+              bytes = λ z. ap (recordBytes 0x62) (i .bytes less) ∙ holds-one 0x62 (applyPrefix Op n q Prefix);
+              words = long ∙ w;
+              holds = rw e
+                  (record {
+                    from = le-refl at;
+                    before = omega arith;
+                    tabled = λ z. ready-beside Scoped held Mapped (Beside held .held .words) fit t long;
+                  });
+            }
+
+        nested-declared : deep q ≤ depth → deep q ≤ n → (owner : ℕ) (held : Table) → length (held .words) ≡ wide → State from owner held
+            → Nesting (innerMade (moduleMade op card root depth Chain) at (span from (from + 6 + length (encode q))) owner held)
+        unfolding innerMade
+        nested-declared l k owner held w s =
+            by-test (eqb owner at && hasRoom held (from + 6 + length (encode q) - from))
+            (λ t. let g = and-eq-true-iff _ _ .0 t in
+            let o : owner ≡ at = eqb-true owner at (g .0) in
+            rw t (beside l k held w (subst (λ (x : ℕ). State from x held) o s) (room-has held (from + 6 + length (encode q) - from) (g .1) (omega arith))))
+            (λ t. rw t (alone l k owner held w s))
 
       -- either, of declarations that go less deep than the module by two
       declared : (most-deep : ℕ) → most-deep + 2 ≤ suc depth → most-deep + 2 ≤ suc n → (d : Record) (from : ℕ) → Fits d (kinds 0x62 0x6A) → Canonical d
@@ -223,7 +303,7 @@ module _ (op : Shortening) (card root : Bytes) (small : length card ≤ 65536) (
           (λ t. rw (span-there st, alone-kind d h, t) (plain-declared d from t f h st (omega arith) b owner held w s))
 
   -- a Mod, by its fields
-  module _ (depth n : ℕ) (below : Law depth) (chain : List ℕ) (fewer : length chain + suc depth ≤ 48) (at : ℕ) (S : Path) (d a t : Record) (c : Records)
+  module _ (depth n : ℕ) (below : (w : ℕ) → Law op card root w depth) (chain : List ℕ) (fewer : length chain + suc depth ≤ 48) (at : ℕ) (S : Path) (d a t : Record) (c : Records)
       (d-fits : Fits d (one 0x01)) (a-fits : Fits a (one 0x03)) (t-fits : Fits t (one 0x01)) (c-fits : FitsAll c (any (kinds 0x62 0x6A)))
       (here : Stands op card root chain at (Mod d a t c) S) (shallow : deep (Mod d a t c) ≤ suc depth) (falls : deep (Mod d a t c) ≤ suc n) where
     abbrev This : Record
@@ -264,7 +344,7 @@ module _ (op : Shortening) (card root : Bytes) (small : length card ≤ 65536) (
     unfolding deep
     body-shallow = omega arith
 
-    body-declared : ltb Most Pairs ≡ false → (mine : Table) → Tabled (scopeAt op card root chain at) mine (mappings Op This S) → length (mine .words) ≡ wide
+    body-declared : ltb Most Pairs ≡ false → (mine : Table) → Ready (scopeAt op card root chain at) mine (mappings Op This S) → length (mine .words) ≡ wide
         → Declares op card root Most n chain at This S wide c From (made [] 0 at mine) (All mine)
     body-declared few mine tabled w =
         let l = body-shallow in
@@ -274,10 +354,10 @@ module _ (op : Shortening) (card root : Bytes) (small : length card ≤ 65536) (
         (record { from = le-refl at; before = omega arith; tabled = λ z. tabled })
 
     -- with its uses ahead of them, it is applyPrefix's
-    whole : ltb Most Pairs ≡ false → (mine : Table) → Tabled (scopeAt op card root chain at) mine (mappings Op This S) → length (mine .words) ≡ wide
+    whole : ltb Most Pairs ≡ false → (mine : Table) → Ready (scopeAt op card root chain at) mine (mappings Op This S) → length (mine .words) ≡ wide
         → (owner : ℕ) (held : Table) → length (held .words) ≡ wide → (E : Made) → Declares op card root Most n chain at This S wide c From (made [] 0 at mine) E
         → Applied op card root Most (suc n) chain at This S owner held
-        (made (recordBytes 0x60 (Ahead d a t c ++ recordBytes 0x02 (importsBytes (scopeAt op card root chain at) (mine .words) (mine .count) ++ E .bytes)))
+        (made (recordBytes 0x60 (Ahead d a t c ++ recordBytes 0x02 (importsBytes (scopeAt op card root chain at) (ownWords mine) (mine .count) ++ E .bytes)))
         (E .full) (E .owner) (E .held))
     unfolding fullTable nth first
     whole few mine tabled x owner held w E e =
@@ -293,7 +373,7 @@ module _ (op : Shortening) (card root : Bytes) (small : length card ≤ 65536) (
         }
 
     -- and where its table is full, so it is in the text
-    overfull : ltb Most Pairs ≡ true → (mine : Table) → Tabled (scopeAt op card root chain at) mine (mappings Op This S) → length (mine .words) ≡ wide
+    overfull : ltb Most Pairs ≡ true → (mine : Table) → Ready (scopeAt op card root chain at) mine (mappings Op This S) → length (mine .words) ≡ wide
         → (owner : ℕ) (held : Table) → length (held .words) ≡ wide
         → Applied op card root Most (suc n) chain at This S owner held (made [] (at + 1) at mine)
     unfolding fullTable
@@ -305,13 +385,13 @@ module _ (op : Shortening) (card root : Bytes) (small : length card ≤ 65536) (
           after = other (record { from = le-refl at; before = (let l = encode-six This in omega arith); tabled = λ z. tabled });
         }
 
-    mod-applied : (owner : ℕ) (held : Table) → length (held .words) ≡ wide → (owner ≡ at → Tabled (scopeAt op card root chain at) held (mappings Op This S))
+    mod-applied : (owner : ℕ) (held : Table) → length (held .words) ≡ wide → (owner ≡ at → Ready (scopeAt op card root chain at) held (mappings Op This S))
         → Applied op card root Most (suc n) chain at This S owner held
         (moduleMade op card root (suc depth) chain (span at (at + length (encode This))) owner held)
     unfolding moduleMade modMade bodyMade
     mod-applied owner held w tabled =
         let mine = tableOf (scopeAt op card root chain at) (suc depth) at owner held in
-        let m-tabled = mine-tabled depth n below chain fewer at This S here shallow owner held tabled in
+        let m-tabled = mine-ready depth n below chain fewer at This S here shallow owner held tabled in
         let m-long = mine-long depth n below chain fewer at This S here shallow owner held w in
         let says = count-says depth n below chain fewer at This S here shallow mine m-tabled m-long in
         by-test (ltb Most Pairs)
@@ -351,27 +431,29 @@ module _ (op : Shortening) (card root : Bytes) (small : length card ≤ 65536) (
       let e : kind m ≡ 0x61 = one-kind 0x61 (kind m) (fits-stands m (one 0x61) f) in
       rw (span-there (here .starts), alone-kind m (here .canonical), e) (left-applied n chain at m S f e owner held)
 
-  law : (depth : ℕ) → Law depth
-  law zero n chain fewer at m S here shallow falls owner held w tabled = absurd (let l = deep-some m in omega arith)
-  law (suc depth) zero chain fewer at m S here shallow falls owner held w tabled = absurd (let l = deep-some m in omega arith)
-  law (suc depth) (suc n) chain fewer at m S here shallow falls owner held w tabled =
-      by-kind 0x60 1 m (
-      (λ g. let h = mod-fields m g in
-      subst (λ (q : Record). Stands op card root chain at q S → deep q ≤ suc depth → deep q ≤ suc n
-      → (owner ≡ at → Tabled (scopeAt op card root chain at) held (mappings Op q S)) → Applied op card root Most (suc n) chain at q S owner held
-      (moduleMade op card root (suc depth) chain (span at (at + length (encode q))) owner held))
-      (sym (h .is-mod))
-      (λ here shallow falls tabled. mod-applied depth n (law depth) chain fewer at S (h .doc) (h .attributes) (h .named) (h .body)
-      (h .doc-fits) (h .attributes-fits) (h .named-fits) (h .body-fits) here shallow falls owner held w tabled)
-      here shallow falls tabled)
-      ⨾ (λ g. extern-applied depth (suc n) chain at m S here g owner held)) (here .fits)
+law : (op : Shortening) (card root : Bytes) → length card ≤ 65536 → length root ≤ 65536 → (depth wide : ℕ) → Law op card root wide depth
+law op card root small rooted zero wide n chain fewer at m S here shallow falls owner held w tabled = absurd (let l = deep-some m in omega arith)
+law op card root small rooted (suc depth) wide zero chain fewer at m S here shallow falls owner held w tabled = absurd (let l = deep-some m in omega arith)
+law op card root small rooted (suc depth) wide (suc n) chain fewer at m S here shallow falls owner held w tabled =
+    by-kind 0x60 1 m (
+    (λ g. let h = mod-fields m g in
+    subst (λ (q : Record). Stands op card root chain at q S → deep q ≤ suc depth → deep q ≤ suc n
+    → (owner ≡ at → Ready (scopeAt op card root chain at) held (mappings (operationOf op) q S))
+    → Applied op card root (min (wide / 4) 65535) (suc n) chain at q S owner held
+    (moduleMade op card root (suc depth) chain (span at (at + length (encode q))) owner held))
+    (sym (h .is-mod))
+    (λ here shallow falls tabled. mod-applied op card root small rooted wide depth n (law op card root small rooted depth) chain fewer at S
+    (h .doc) (h .attributes) (h .named) (h .body)
+    (h .doc-fits) (h .attributes-fits) (h .named-fits) (h .body-fits) here shallow falls owner held w tabled)
+    here shallow falls tabled)
+    ⨾ (λ g. extern-applied op card root small rooted wide depth (suc n) chain at m S here g owner held)) (here .fits)
 
 -- THE LAW
 pub module-applies : (op : Shortening) (card root : Bytes) → length card ≤ 65536 → length root ≤ 65536
     → (depth n : ℕ) (chain : List ℕ) → length chain + depth ≤ 48
     → (at : ℕ) (m : Record) (S : Path) → Stands op card root chain at m S → deep m ≤ depth → deep m ≤ n
-    → (owner : ℕ) (held : Table) → (owner ≡ at → Tabled (scopeAt op card root chain at) held (mappings (operationOf op) m S))
+    → (owner : ℕ) (held : Table) → (owner ≡ at → Ready (scopeAt op card root chain at) held (mappings (operationOf op) m S))
     → Applied op card root (room (held .words)) n chain at m S owner held
     (moduleMade op card root depth chain (span at (at + length (encode m))) owner held)
-module-applies op card root small rooted depth n chain fewer at m S here shallow falls owner held tabled =
-    law op card root small rooted (length (held .words)) depth n chain fewer at m S here shallow falls owner held refl tabled
+module-applies op card root small rooted depth n chain fewer at m S here shallow falls owner held ready =
+    law op card root small rooted depth (length (held .words)) n chain fewer at m S here shallow falls owner held refl ready

@@ -1,6 +1,6 @@
 -- HOW LONG WHAT IS WRITTEN OF A MODULE CAN BE: of any bytes, by any words. Assumes nothing.
 use mathlib.Core.Path.{_≡_}
-use mathlib.Core.Bool.{Bool, true, false, _||_, false≢true, true≢false}
+use mathlib.Core.Bool.{Bool, true, false, _||_, _&&_, false≢true, true≢false}
 use mathlib.Core.List.{List, [], _∷_, _++_}
 use Prim.Native.Nat.{ℕ, zero, suc, _+_, _*_, _-_, _^_, _≤_}
 use native.Mathlib.Nat.{mul-le-mul-left}
@@ -23,18 +23,19 @@ use Rattle.chains.specs.declared.Want.the-variants.{Named}
 use Rattle.chains.specs.Chains.{room, nameAt, wordAt, nextOf, isWanted, seek}
 use Rattle.pairs.specs.Stored.{Stored, stored}
 use Rattle.pairs.specs.Choice.{useBytes, usesBytes}
-use Rattle.adding.specs.Adds.{Table}
+use Rattle.adding.specs.Adds.{Table, table}
+use Rattle.adding.specs.Settles.{ownWords, freeWords}
 use Rattle.choosing.specs.Chooses.{chosenPair, usePair}
 use Rattle.choosing.specs.Picks.{usesOf}
 use Rattle.fields.specs.Fields.{namePlace}
 use Rattle.gathering.specs.Gathers.{Span, span, spansUpTo, spansIn}
 use Rattle.gathering.proofs.Spans.{between-length, span-fits}
-use Rattle.tables.specs.Tables.{tableOf}
+use Rattle.tables.specs.Tables.{tableOf, hasRoom}
 use Rattle.rewriting.specs.Imports.{importsBytes}
 use Rattle.rewriting.specs.Rewrites.{declaration}
 use Rattle.rewriting.proofs.Lengths.{content-inside}
 use Rattle.rewriting.proofs.Bound.{rewrite-bound}
-use Rattle.modules.specs.Modules.{Made, made, bodyIn, aheadIn, behind, nestedMade, eachMade, modMade, declarationMade, bodyMade, moduleMade}
+use Rattle.modules.specs.Modules.{Made, made, bodyIn, aheadIn, behind, nestedMade, besideMade, innerMade, eachMade, modMade, declarationMade, bodyMade, moduleMade}
 
 -- the uses: each has a name and a base that stand in the card
 same-self : (op : Shortening) (x : Bytes) → samePaths op x x ≡ true
@@ -173,24 +174,33 @@ module _ (op : Shortening) (card root : Bytes) (small : length card ≤ 65536) w
       one-of (λ (x : Bytes). length x ≤ (to - from) * 2 ^ 32) (ltb 65536 (length r) || ltb 48 depth) (omega arith) (omega arith)
 
   module _ (f : List ℕ → Span → ℕ → Table → Made) (bounded : Bounded f) (depth : ℕ) (deep : depth ≤ 48) (chain : List ℕ) (at : ℕ) where
+    pub inner-most : (from to : ℕ) → from + 6 ≤ to → to ≤ length card → (owner : ℕ) (held : Table)
+        → length (innerMade (f chain) at (span from to) owner held .bytes) ≤ (to - from) * 2 ^ 32
+    unfolding innerMade besideMade nestedMade
+    inner-most from to l h owner held =
+        let m = f chain (span (from + 6) to) owner held in
+        let b = f chain (span (from + 6) to) 65537 (table 0 (freeWords held)) in
+        let i = bounded chain (from + 6) to l h owner held in
+        let j = bounded chain (from + 6) to l h 65537 (table 0 (freeWords held)) in
+        let a = record-length 0x62 (m .bytes) in
+        let c = record-length 0x62 (b .bytes) in
+        one-of (Most ((to - from) * 2 ^ 32)) (eqb owner at && hasRoom held (to - from)) (omega arith) (omega arith)
+
     pub declaration-most : (from to : ℕ) → from + 6 ≤ to → to ≤ length card → (owner : ℕ) (held : Table)
         → length (declarationMade op card root f depth chain at (span from to) owner held .bytes) ≤ (to - from) * 2 ^ 32
-    unfolding declarationMade nestedMade
+    unfolding declarationMade
     declaration-most from to l h owner held =
-        let i = bounded chain (from + 6) to l h owner held in
-        let m = f chain (span (from + 6) to) owner held in
-        let a = record-length 0x62 (m .bytes) in
         one-of (Most ((to - from) * 2 ^ 32)) (eqb (kindOf (between card from to)) 0x62)
-        (omega arith)
-        (declaration-short (scope op card root chain) (tableOf (scope op card root chain) depth at owner held .words) depth deep from to l)
+        (inner-most from to l h owner held)
+        (declaration-short (scope op card root chain) (ownWords (tableOf (scope op card root chain) depth at owner held)) depth deep from to l)
 
     pub body-most : (from to : ℕ) → to ≤ length card → (mine : Table)
         → length (bodyMade op card root f depth chain at (span from to) mine .bytes) ≤ 6 + 2 ^ 34 + (to - (from + 6)) * 2 ^ 32
     unfolding bodyMade
     body-most from to h mine =
-        let uses = importsBytes (scope op card root chain) (mine .words) (mine .count) in
+        let uses = importsBytes (scope op card root chain) (ownWords mine) (mine .count) in
         let m = eachMade (declarationMade op card root f depth chain at) (spansIn card (from + 6) to) (made [] 0 at mine) in
-        let a = imports-bound (scope op card root chain) (mine .words) small (mine .count) in
+        let a = imports-bound (scope op card root chain) (ownWords mine) small (mine .count) in
         let b = each-bound card (declarationMade op card root f depth chain at) declaration-most (from + 6) to h (made [] 0 at mine) in
         let c = length-append uses (m .bytes) in
         let d = record-length 0x02 (uses ++ m .bytes) in

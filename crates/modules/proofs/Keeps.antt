@@ -1,9 +1,9 @@
 -- How many words there are does not change, over any bytes. Assumes nothing.
-use mathlib.Core.Path.{_≡_, refl, _∙_}
-use mathlib.Core.Bool.{not}
+use mathlib.Core.Path.{_≡_, refl, sym, ap, _∙_}
+use mathlib.Core.Bool.{not, _&&_}
 use mathlib.Core.List.{List, [], _∷_, _++_}
-use Prim.Native.Nat.{ℕ, zero, suc, _+_}
-use lib.ListN.{length}
+use Prim.Native.Nat.{ℕ, zero, suc, _+_, _-_, _*_}
+use lib.ListN.{length, length-append, take-append-drop}
 use lib.Dec.{eqb, ltb}
 use Rattle.wire.specs.Numbers.{Bytes, between}
 use Rattle.records.specs.Record.{kindOf, contentOf}
@@ -11,20 +11,35 @@ use Rattle.rast.proofs.Tests.{one-of}
 use Rattle.operation.specs.declared.Shortening.{Shortening}
 use Rattle.prefix.specs.Prefix.{Scope, scope}
 use Rattle.chains.specs.Chains.{room}
-use Rattle.adding.specs.Adds.{Table}
+use Rattle.adding.specs.Adds.{Table, table}
+use Rattle.adding.specs.Settles.{ownWords, freeWords}
+use Rattle.adding.proofs.Settles.{settled-table-length}
 use Rattle.fields.specs.Fields.{namePlace}
-use Rattle.gathering.specs.Gathers.{Span, span, spansIn}
+use Rattle.gathering.specs.Gathers.{Span, span, spansIn, gathered}
 use Rattle.gathering.proofs.Keeps.{gathered-length}
-use Rattle.tables.specs.Tables.{tableOf}
-use Rattle.modules.specs.Modules.{Made, made, aheadIn, behind, nestedMade, eachMade, modMade, declarationMade, bodyMade, moduleMade}
+use Rattle.tables.specs.Tables.{tableOf, hasRoom}
+use Rattle.modules.specs.Modules.{Made, made, aheadIn, behind, nestedMade, besideMade, innerMade, eachMade, modMade, declarationMade, bodyMade, moduleMade}
 
 pub table-length : (s : Scope) (left at owner : ℕ) (t : Table) → length (tableOf s left at owner t .words) ≡ length (t .words)
 unfolding tableOf
 table-length s left at owner t =
-    one-of (λ (u : Table). length (u .words) ≡ length (t .words)) (eqb owner at) refl (gathered-length s left at (t .words))
+    one-of (λ (u : Table). length (u .words) ≡ length (t .words)) (eqb owner at) refl
+    (settled-table-length (s .op) (s .card) (gathered s left at (t .words)) ∙ gathered-length s left at (t .words))
 
 abbrev Keeps : (Span → ℕ → Table → Made) → Type 0
 Keeps f = (r : Span) (owner : ℕ) (held : Table) → length (f r owner held .held .words) ≡ length (held .words)
+
+-- a nested module beside a table, or with all words
+pub inner-length : (f : Span → ℕ → Table → Made) → Keeps f → (at : ℕ) (r : Span) (owner : ℕ) (held : Table)
+    → length (innerMade f at r owner held .held .words) ≡ length (held .words)
+unfolding innerMade besideMade nestedMade
+inner-length f k at r owner held =
+    let inner = span (r .from + 6) (r .to) in
+    let b = f inner 65537 (table 0 (freeWords held)) in
+    one-of (λ (m : Made). length (m .held .words) ≡ length (held .words)) (eqb owner at && hasRoom held (r .to - r .from))
+    (length-append (ownWords held) (b .held .words) ∙ ap (λ (x : ℕ). length (ownWords held) + x) (k inner 65537 (table 0 (freeWords held)))
+    ∙ sym (length-append (ownWords held) (freeWords held)) ∙ ap length (take-append-drop (4 * held .count) (held .words)))
+    (k inner owner held)
 
 pub each-length : (f : Span → ℕ → Table → Made) → Keeps f → (rs : List Span) (m : Made)
     → length (eachMade f rs m .held .words) ≡ length (m .held .words)
@@ -39,10 +54,10 @@ module _ (op : Shortening) (card root : Bytes) where
   module _ (f : List ℕ → Span → ℕ → Table → Made) (keeps : (chain : List ℕ) → Keeps (f chain)) where
     pub declaration-length : (depth : ℕ) (chain : List ℕ) (at : ℕ) (r : Span) (owner : ℕ) (held : Table)
         → length (declarationMade op card root f depth chain at r owner held .held .words) ≡ length (held .words)
-    unfolding declarationMade nestedMade
+    unfolding declarationMade
     declaration-length depth chain at r owner held =
         one-of (Has (length (held .words))) (eqb (kindOf (between card (r .from) (r .to))) 0x62)
-        (keeps chain (span (r .from + 6) (r .to)) owner held)
+        (inner-length (f chain) (keeps chain) at r owner held)
         (table-length (scope op card root chain) depth at owner held)
 
     pub body-length : (depth : ℕ) (chain : List ℕ) (at : ℕ) (b : Span) (mine : Table)

@@ -30,26 +30,25 @@ use Rattle.chains.specs.Chains.{room}
 use Rattle.adding.specs.Adds.{Table}
 use Rattle.fields.specs.Fields.{namePlace}
 use Rattle.gathering.specs.Gathers.{span}
-use Rattle.gathering.specs.Tabled.{Tabled}
 use Rattle.gathering.proofs.Mapped.{selected-canonical}
 use Rattle.modules.specs.Modules.{Made, moduleMade}
 use Rattle.modules.proofs.Inner.{name-there, name-small}
-use Rattle.modules.proofs.States.{found, After, same, other, scopeAt, Stands, Applied}
+use Rattle.modules.proofs.States.{found, Ready, After, same, other, scopeAt, Stands, Applied}
 use Rattle.modules.proofs.Applies.{module-applies}
 
--- what words that are the module's own mean they mean after it too
-pub after-tabled : (s : Scope) (at to : ℕ) (a : Mapping) (owner : ℕ) (held : Table) (M : Made) → (owner ≡ at → Tabled s held a) → After s at to a owner held M
-    → M .owner ≡ at → Tabled s (M .held) a
-after-tabled s at to a owner held M t (same x y) e = rw y (t (sym x ∙ e))
-after-tabled s at to a owner held M t (other h) e = h .tabled e
+-- words that are the module's own, and ready, are so after it too
+pub after-ready : (s : Scope) (at to : ℕ) (a : Mapping) (owner : ℕ) (held : Table) (M : Made) → (owner ≡ at → Ready s held a) → After s at to a owner held M
+    → M .owner ≡ at → Ready s (M .held) a
+after-ready s at to a owner held M t (same x y) e = rw y (t (sym x ∙ e))
+after-ready s at to a owner held M t (other h) e = h .tabled e
 
 module _ (card root : Bytes) where
   abbrev pub Prefix : Path
   Prefix = MSel (tree root) (nameOf (tree card))
 
-  -- the outermost module's mapping is what words mean
+  -- words that hold the outermost module's table
   abbrev pub Own : Shortening → Table → Type 0
-  Own op held = Tabled (scopeAt op card root [] 0) held (mappings (operationOf op) (tree card) Prefix)
+  Own op held = Ready (scopeAt op card root [] 0) held (mappings (operationOf op) (tree card) Prefix)
 
   -- a card and a root that read sound, and no longer than their places can say
   pub record Reads (limit : ℕ) : Type 0 where
@@ -124,7 +123,7 @@ outermost-is op card root words e bc br owner held most t =
       full = rw (← most) (a .full);
       bytes = λ z. a .bytes (rw (← most) at z);
       long = a .words;
-      own = after-tabled (scopeAt op card root [] 0) 0 _ (mappings (operationOf op) (tree card) (Prefix card root)) owner held M t (a .after);
+      own = after-ready (scopeAt op card root [] 0) 0 _ (mappings (operationOf op) (tree card) (Prefix card root)) owner held M t (a .after);
     }
 
 -- and of it once more, by the words as they are then

@@ -1,8 +1,8 @@
 -- What the work words hold while modules are written, and what is made of a module, of a declaration and of several, in the text's terms. Assumes nothing.
-use mathlib.Core.Path.{_≡_, refl}
+use mathlib.Core.Path.{_≡_, refl, sym, ap, ap₂, subst}
 use mathlib.Core.List.{List, [], _∷_, _++_}
 use mathlib.Core.Option.{Option, none, some}
-use Prim.Native.Nat.{ℕ, suc, _+_, _<_, _≤_}
+use Prim.Native.Nat.{ℕ, suc, _+_, _/_, _<_, _≤_, min}
 use native.Mathlib.Omega.{arith}
 use lib.ListN.{length}
 use lib.Dec.{eqb}
@@ -17,14 +17,18 @@ use Rattle.rast.specs.Path.{Path, whether}
 use Rattle.rast.specs.Operation.{Operation, nested}
 use Rattle.rast.specs.Mod.{case, match, nameOf}
 use Rattle.rast.proofs.Tests.{by-test}
-use Rattle.factor_paths.specs.Mapping.{Mapping}
+use Rattle.factor_paths.specs.Mapping.{Mapping, pairs}
 use Rattle.factor_paths.specs.Apply.{mappings, pathsToRemove, applyPrefix}
 use Rattle.factor_paths.specs.Walk.{walkDecl}
 use Rattle.outcome.specs.FullTable.{fieldAt, firstIn, fullTable}
 use Rattle.operation.specs.declared.Shortening.{Shortening}
 use Rattle.operation.specs.Operations.{operationOf}
 use Rattle.prefix.specs.Prefix.{Scope, scope, prefixIn}
-use Rattle.adding.specs.Adds.{Table}
+use Rattle.chains.specs.Chains.{room}
+use Rattle.pairs.proofs.Means.{means-count}
+use Rattle.adding.specs.Adds.{Table, table}
+use Rattle.adding.specs.Settles.{ownWords, settledTable}
+use Rattle.adding.proofs.Settles.{settled-table-count, settled-table-length, settled-own, settled-has}
 use Rattle.fields.specs.Fields.{namePlace}
 use Rattle.gathering.specs.Tabled.{Tabled}
 use Rattle.modules.specs.Modules.{Made, firstFull}
@@ -43,11 +47,31 @@ first-none a = by-test (eqb a 0) (λ t. rw t (eqb-true a 0 t)) (λ t. rw t)
 pub first-first : (a b c : ℕ) → firstFull (firstFull a b) c ≡ firstFull a (firstFull b c)
 first-first a b c = by-test (eqb a 0) (λ t. rw t) (λ t. rw t (rw t))
 
--- the words are those of the module at a place, or of one in it that starts before another place; the module's own mean its mapping
+-- words that hold a module's table, settled: how many pairs it has, and where there is room for them, that the words of the pairs mean its mapping
+pub record Ready (s : Scope) (t : Table) (a : Mapping) : Type 0 where
+  pub count : t .count ≡ min (pairs (a .provenance)) (suc (room (t .words)))
+  pub tabled : t .count ≤ room (t .words) → Tabled s (table (t .count) (ownWords t)) a
+
+-- THE LAW: a table that means a mapping is ready once it is settled
+pub settled-ready : (s : Scope) (t : Table) (a : Mapping) → Tabled s t a → Ready s (settledTable (s .op) (s .card) t) a
+settled-ready s t a h =
+    let u = settledTable (s .op) (s .card) t in
+    let c : u .count ≡ t .count = settled-table-count (s .op) (s .card) t in
+    let l : room (u .words) ≡ room (t .words) = ap (λ (x : ℕ). min (x / 4) 65535) (settled-table-length (s .op) (s .card) t) in
+    let d = means-count (s .op) (h .pairs) a (h .means) in
+    let e = h .has .count in
+    record {
+      count = omega arith;
+      tabled = λ r. let r′ : t .count ≤ room (t .words) = omega arith in
+          subst (λ (x : Table). Tabled s x a) (sym (ap₂ table c (settled-own (s .op) (s .card) t r′)))
+          (record { pairs = h .pairs; has = settled-has s (t .words) (t .count) r′ (h .pairs) (h .has); means = h .means });
+    }
+
+-- the words are those of the module at a place, or of one in it that starts before another place; the module's own are ready
 pub record Holds (s : Scope) (at to : ℕ) (a : Mapping) (owner : ℕ) (held : Table) : Type 0 where
   pub from : at ≤ owner
   pub before : owner < to
-  pub tabled : owner ≡ at → Tabled s held a
+  pub tabled : owner ≡ at → Ready s held a
 
 pub holds-on : {s : Scope} {at to : ℕ} {a : Mapping} {owner : ℕ} {held : Table} (next : ℕ) → to ≤ next → Holds s at to a owner held
     → Holds s at next a owner held

@@ -1,8 +1,8 @@
--- A module written over the bytes of a card, whatever they are (01, applyPrefix): its uses, then its declarations, each module by its own table. The work
--- words hold one table at a time, so what they hold goes along. proofs/Applies shows that over a sound card it is applyPrefix. Assumes nothing: these are
--- definitions.
+-- A module written over the bytes of a card, whatever they are (01, applyPrefix): its uses, then its declarations, each module by its own table. What the
+-- work words hold goes along: one module's table and, behind its pairs, those of modules in it that surely have room there. proofs/Applies shows that over a
+-- sound card it is applyPrefix. Assumes nothing: these are definitions.
 use mathlib.Core.List.{List, [], _∷_, _++_}
-use mathlib.Core.Bool.{not, cond}
+use mathlib.Core.Bool.{not, _&&_, cond}
 use Prim.Native.Nat.{ℕ, zero, suc, _+_, _-_}
 use lib.ListN.{length, take}
 use lib.Dec.{eqb, ltb}
@@ -11,10 +11,11 @@ use Rattle.records.specs.Record.{recordBytes, kindOf, contentOf, restOf}
 use Rattle.operation.specs.declared.Shortening.{Shortening}
 use Rattle.prefix.specs.Prefix.{Scope, scope}
 use Rattle.chains.specs.Chains.{room}
-use Rattle.adding.specs.Adds.{Table}
+use Rattle.adding.specs.Adds.{Table, table}
+use Rattle.adding.specs.Settles.{ownWords, freeWords}
 use Rattle.fields.specs.Fields.{namePlace}
 use Rattle.gathering.specs.Gathers.{Span, span, spansIn}
-use Rattle.tables.specs.Tables.{tableOf}
+use Rattle.tables.specs.Tables.{tableOf, hasRoom}
 use Rattle.rewriting.specs.Imports.{importsBytes}
 use Rattle.rewriting.specs.Rewrites.{declaration}
 
@@ -46,6 +47,16 @@ behind m d = made (m .bytes ++ d .bytes) (firstFull (m .full) (d .full)) (d .own
 unfoldable pub nestedMade : Made → Made
 nestedMade m = made (recordBytes 0x62 (m .bytes)) (m .full) (m .owner) (m .held)
 
+-- the same, made with the words behind the table of the module at a place, which stays
+unfoldable pub besideMade : ℕ → Table → Made → Made
+besideMade at held m = made (recordBytes 0x62 (m .bytes)) (m .full) at (table (held .count) (ownWords held ++ m .held .words))
+
+-- a declaration that holds a module goes on by f: beside the table of the module at a place, where the words hold that and have room, else with all words
+unfoldable pub innerMade : (Span → ℕ → Table → Made) → (at : ℕ) → Span → ℕ → Table → Made
+innerMade f at r owner held =
+    let inner : Span = span (r .from + 6) (r .to) in
+    cond (eqb owner at && hasRoom held (r .to - r .from)) (besideMade at held (f inner 65537 (table 0 (freeWords held)))) (nestedMade (f inner owner held))
+
 -- declarations, one behind the other
 unfoldable pub eachMade : (Span → ℕ → Table → Made) → List Span → Made → Made
 eachMade f [] m = m
@@ -56,18 +67,18 @@ unfoldable pub modMade : Bytes → Made → Made
 modMade c b = made (recordBytes 0x60 (aheadIn c ++ b .bytes)) (b .full) (b .owner) (b .held)
 
 module _ (op : Shortening) (card root : Bytes) where
-  -- a declaration of the module at a place, which has this chain and is at most so deep: one that holds a module goes on by f
+  -- a declaration of the module at a place, which has this chain and is at most so deep
   unfoldable pub declarationMade : (List ℕ → Span → ℕ → Table → Made) → (depth : ℕ) → List ℕ → (at : ℕ) → Span → ℕ → Table → Made
   declarationMade f depth chain at r owner held =
       let s : Scope = scope op card root chain in
       let d : Bytes = between card (r .from) (r .to) in
       let mine : Table = tableOf s depth at owner held in
-      cond (eqb (kindOf d) 0x62) (nestedMade (f chain (span (r .from + 6) (r .to)) owner held)) (made (declaration s (mine .words) depth d) 0 at mine)
+      cond (eqb (kindOf d) 0x62) (innerMade (f chain) at r owner held) (made (declaration s (ownWords mine) depth d) 0 at mine)
 
   -- its body, from a place to the module's end: its uses, then its declarations
   unfoldable pub bodyMade : (List ℕ → Span → ℕ → Table → Made) → (depth : ℕ) → List ℕ → (at : ℕ) → Span → Table → Made
   bodyMade f depth chain at b mine =
-      let uses : Bytes = importsBytes (scope op card root chain) (mine .words) (mine .count) in
+      let uses : Bytes = importsBytes (scope op card root chain) (ownWords mine) (mine .count) in
       let m : Made = eachMade (declarationMade f depth chain at) (spansIn card (b .from + 6) (b .to)) (made [] 0 at mine) in
       made (recordBytes 0x02 (uses ++ m .bytes)) (m .full) (m .owner) (m .held)
 

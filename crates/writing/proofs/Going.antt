@@ -1,28 +1,20 @@
 -- The loop over the declarations of a body: what is written, whose table the words hold, and what is left. And a module, test by test. Assumes nothing.
 use mathlib.Core.Path.{_≡_, refl, sym, ap, ap₂, _∙_}
-use mathlib.Core.Bool.{Bool, true, false, not, cond}
-use mathlib.Core.List.{List, [], _∷_, _++_}
-use Prim.Native.Nat.{ℕ, zero, suc, _+_, _-_, _*_, _^_, _<_, _≤_, min}
+use mathlib.Core.Bool.{true, false}
+use mathlib.Core.List.{List, [], _∷_}
+use Prim.Native.Nat.{ℕ, _+_, _-_, _*_, _^_, _≤_, min}
 use native.Mathlib.Nat.{zero-add}
 use native.Mathlib.Omega.{arith}
-use lib.ListN.{length, take, drop, length-append, length-take}
-use lib.Dec.{eqb, ltb}
-use borrow.Author.Tests.{eq-eqb, ne-eqb, lt-ltb, le-ltb}
+use lib.ListN.{length, length-append}
 use Rattle.wire.specs.Numbers.{Bytes, between}
-use Rattle.records.specs.Record.{lengthOf, kindOf, contentOf}
+use Rattle.records.specs.Record.{lengthOf}
 use Rattle.records.specs.Reading.{short}
-use Rattle.operation.specs.declared.Shortening.{Shortening}
-use Rattle.prefix.specs.Prefix.{scope}
-use Rattle.chains.specs.Chains.{room}
 use Rattle.adding.specs.Adds.{Table, table}
-use Rattle.fields.specs.Fields.{namePlace}
 use Rattle.gathering.specs.Gathers.{Span, span, spansIn}
 use Rattle.gathering.proofs.Spans.{span-fits, none-short, none-in, first-in}
-use Rattle.tables.specs.Tables.{tableOf}
-use Rattle.laying.specs.Lays.{lay}
 use Rattle.laying.proofs.Laws.{lay-nil, lay-length, lay-behind}
-use Rattle.modules.specs.Modules.{Made, made, firstFull, behind, aheadIn, eachMade, bodyMade, modMade, moduleMade}
-use Rattle.writing.specs.Wrote.{Wrote, Within}
+use Rattle.modules.specs.Modules.{Made, made, firstFull, behind, eachMade}
+use Rattle.writing.specs.Wrote.{Wrote}
 use Rattle.writing.proofs.Pieces.{lent, back, lent-back}
 
 -- nothing is made yet

@@ -1,31 +1,31 @@
 -- What the members of the ring write, from what those that they call do: parts of out that are lent and come back, and heads laid once what is behind them is.
 -- Assumes nothing.
-use mathlib.Core.Path.{_≡_, refl, sym, ap, subst, _∙_}
-use mathlib.Core.Bool.{Bool, true, false, not, cond}
-use mathlib.Core.List.{List, [], _∷_, _++_}
-use Prim.Native.Nat.{ℕ, zero, suc, _+_, _-_, _*_, _^_, _<_, _≤_, min}
+use mathlib.Core.Path.{_≡_, refl, sym, ap, ap₂, subst, _∙_}
+use mathlib.Core.Bool.{Bool, true, false, _&&_}
+use mathlib.Core.List.{List, [], _++_, append-nil}
+use Prim.Native.Nat.{ℕ, _+_, _-_, _*_, _≤_, min}
 use native.Mathlib.Nat.{zero-add}
 use native.Mathlib.Omega.{arith}
-use lib.ListN.{length, take, drop, length-append, length-take, length-drop}
+use lib.ListN.{length, take, drop, length-append, length-take, length-drop, drop-of-length-le}
 use lib.Seq.{take-all}
-use lib.Dec.{eqb, ltb}
-use borrow.Author.Tests.{eq-eqb, ne-eqb, lt-ltb, le-ltb}
+use lib.Dec.{eqb, leb}
+use borrow.Author.Tests.{eq-eqb, ne-eqb, leb-true, leb-false}
+use Rattle.rast.proofs.Tests.{by-test}
 use Rattle.wire.specs.Numbers.{Bytes, between}
 use Rattle.records.specs.Record.{recordBytes, kindOf, contentOf, restOf}
 use Rattle.records.proofs.Tree.{record-length}
 use Rattle.operation.specs.declared.Shortening.{Shortening}
 use Rattle.prefix.specs.Prefix.{scope}
-use Rattle.chains.specs.Chains.{room}
 use Rattle.adding.specs.Adds.{Table, table}
-use Rattle.fields.specs.Fields.{namePlace}
+use Rattle.adding.specs.Settles.{ownWords}
 use Rattle.gathering.specs.Gathers.{Span, span, spansIn}
-use Rattle.tables.specs.Tables.{tableOf}
+use Rattle.tables.specs.Tables.{tableOf, hasRoom}
 use Rattle.laying.specs.Lays.{lay, Laid, headBytes}
 use Rattle.laying.proofs.Laws.{lay-part, lay-behind, laid-record}
 use Rattle.rewriting.specs.Imports.{importsBytes}
 use Rattle.rewriting.specs.Rewrites.{declaration}
 use Rattle.rewriting.proofs.Lengths.{rest-inside}
-use Rattle.modules.specs.Modules.{Made, made, bodyIn, aheadIn, nestedMade, eachMade, declarationMade, bodyMade, modMade, moduleMade}
+use Rattle.modules.specs.Modules.{Made, made, bodyIn, aheadIn, nestedMade, besideMade, innerMade, eachMade, declarationMade, bodyMade, modMade}
 use Rattle.writing.specs.Wrote.{Wrote}
 
 -- the part of out that is lent from a place on, and out when it is back
@@ -64,37 +64,88 @@ headed-two out o₁ p k n a b part after d e f l h =
     long : 2 + (length a + length b) ≡ 6 + length (a ++ b) - 0 - 4
     long = let c = length-append a b in omega arith
 
+-- the words that pairs take, as the code lends them, and those behind them
+module _ (words : List ℕ) (pairs k : ℕ) (e : k ≡ min (4 * pairs) (length words)) where
+  pub own-taken : take k words ≡ take (4 * pairs) words
+  own-taken =
+      by-test (leb (4 * pairs) (length words))
+      (λ t. let l = leb-true (4 * pairs) (length words) t in let z : k ≡ 4 * pairs = omega arith in rw z)
+      (λ t. let l = leb-false (4 * pairs) (length words) t in take-all k words (omega arith) ∙ sym (take-all (4 * pairs) words (omega arith)))
+
+  free-lent : lent words k ≡ drop (4 * pairs) words
+  free-lent =
+      take-all (length words - k) (drop k words) (let d = length-drop k words in omega arith)
+      ∙ by-test (leb (4 * pairs) (length words))
+      (λ t. let l = leb-true (4 * pairs) (length words) t in let z : k ≡ 4 * pairs = omega arith in rw z)
+      (λ t. let l = leb-false (4 * pairs) (length words) t in drop-of-length-le words {i = k} (omega arith) ∙ sym (drop-of-length-le words {i = 4 * pairs} (omega arith)))
+
+  free-back : (part : List ℕ) → back words k part ≡ take (4 * pairs) words ++ part
+  free-back part =
+      ap₂ (λ (x y : List ℕ). x ++ y) own-taken
+      (ap (λ (x : List ℕ). part ++ x) (drop-of-length-le (drop k words) {i = length words - k} (let d = length-drop k words in omega arith)) ∙ append-nil part)
+
+-- a nested module, beside the table that the words hold and with all words
+module _ (f : Span → ℕ → Table → Made) (at from to owner₀ pairs₀ : ℕ) (words₀ : List ℕ) (test : Bool)
+    (y : test ≡ (eqb owner₀ at && hasRoom (table pairs₀ words₀) (to - from))) (out : Bytes) (q : ℕ) (e : q ≡ min 6 (length out)) where
+  pub beside-gives : test ≡ true → (k : ℕ) → k ≡ min (4 * pairs₀) (length words₀) → (part : Bytes) (words : List ℕ) (len full owner pairs : ℕ) (after : Bytes)
+      → Wrote (lent out q) part words len full owner pairs (f (span (from + 6) to) 65537 (table 0 (lent words₀ k)))
+      → after ≡ lay (back out q part) 0 (headBytes (len + 2) 0x62)
+      → Wrote out after (back words₀ k words) (len + 6) full at pairs₀ (innerMade f at (span from to) owner₀ (table pairs₀ words₀))
+  unfolding innerMade besideMade
+  beside-gives t k z part words len full owner pairs after w h =
+      let m = f (span (from + 6) to) 65537 (table 0 (drop (4 * pairs₀) words₀)) in
+      let v : Wrote (lent out q) part words len full owner pairs m =
+      subst (λ (x : List ℕ). Wrote (lent out q) part words len full owner pairs (f (span (from + 6) to) 65537 (table 0 x))) (free-lent words₀ pairs₀ k z) w in
+      rw (sym y ∙ t)
+      (record {
+        length-is = (let l = record-length 0x62 (m .bytes) in omega (arith, v .length-is, l));
+        laid = headed out q 0x62 (len + 2) (m .bytes) part after e (v .laid) (omega (arith, v .length-is)) h;
+        full-is = v .full-is;
+        owner-is = refl;
+        held-is =
+            ap (table pairs₀)
+            (free-back words₀ pairs₀ k z words ∙ ap (λ (x : Table). take (4 * pairs₀) words₀ ++ x .words) (v .held-is));
+      })
+
+  pub alone-gives : test ≡ false → (part : Bytes) (words : List ℕ) (len full owner pairs : ℕ) (after : Bytes)
+      → Wrote (lent out q) part words len full owner pairs (f (span (from + 6) to) owner₀ (table pairs₀ words₀))
+      → after ≡ lay (back out q part) 0 (headBytes (len + 2) 0x62)
+      → Wrote out after words (len + 6) full owner pairs (innerMade f at (span from to) owner₀ (table pairs₀ words₀))
+  unfolding innerMade nestedMade
+  alone-gives t part words len full owner pairs after w h =
+      let m = f (span (from + 6) to) owner₀ (table pairs₀ words₀) in
+      rw (sym y ∙ t)
+      (record {
+        length-is = (let l = record-length 0x62 (m .bytes) in omega (arith, w .length-is, l));
+        laid = headed out q 0x62 (len + 2) (m .bytes) part after e (w .laid) (omega (arith, w .length-is)) h;
+        full-is = w .full-is;
+        owner-is = w .owner-is;
+        held-is = w .held-is;
+      })
+
 module _ (op : Shortening) (card root : Bytes) where
   -- a declaration that holds a module
   module _ (f : List ℕ → Span → ℕ → Table → Made) (depth : ℕ) (chain : List ℕ) (at from to owner₀ : ℕ) (held : Table) (d : Bytes)
       (y : d ≡ between card from to) (k : ℕ) (z : k ≡ kindOf d) where
-    pub nested-gives : k ≡ 0x62 → (out : Bytes) (q : ℕ) (part : Bytes) (words : List ℕ) (len full owner pairs : ℕ) (after : Bytes) → q ≡ min 6 (length out)
-        → Wrote (lent out q) part words len full owner pairs (f chain (span (from + 6) to) owner₀ held)
-        → after ≡ lay (back out q part) 0 (headBytes (len + 2) 0x62)
-        → Wrote out after words (len + 6) full owner pairs (declarationMade op card root f depth chain at (span from to) owner₀ held)
-    unfolding declarationMade nestedMade
-    nested-gives n out q part words len full owner pairs after e w h =
-        let m = f chain (span (from + 6) to) owner₀ held in
-        rw (eq-eqb (kindOf (between card from to)) 0x62 (sym (ap kindOf y) ∙ sym z ∙ n))
-        (record {
-          length-is = (let l = record-length 0x62 (m .bytes) in omega (arith, w .length-is, l));
-          laid = headed out q 0x62 (len + 2) (m .bytes) part after e (w .laid) (omega (arith, w .length-is)) h;
-          full-is = w .full-is;
-          owner-is = w .owner-is;
-          held-is = w .held-is;
-        })
+    pub inner-gives : k ≡ 0x62 → (out after : Bytes) (words : List ℕ) (len full owner pairs : ℕ)
+        → Wrote out after words len full owner pairs (innerMade (f chain) at (span from to) owner₀ held)
+        → Wrote out after words len full owner pairs (declarationMade op card root f depth chain at (span from to) owner₀ held)
+    unfolding declarationMade
+    inner-gives n out after words len full owner pairs w = rw (eq-eqb (kindOf (between card from to)) 0x62 (sym (ap kindOf y) ∙ sym z ∙ n)) w
 
     -- and any other, by the module's table
-    pub other-gives : (k ≡ 0x62 → ⊥) → (out : Bytes) (words : List ℕ) (pairs n : ℕ) (after : Bytes)
-        → table pairs words ≡ tableOf (scope op card root chain) depth at owner₀ held → Laid out 0 (declaration (scope op card root chain) words depth d) n
-        after
+    pub other-gives : (k ≡ 0x62 → ⊥) → (out : Bytes) (words : List ℕ) (pairs own n : ℕ) (after : Bytes)
+        → table pairs words ≡ tableOf (scope op card root chain) depth at owner₀ held → own ≡ min (4 * pairs) (length words)
+        → Laid out 0 (declaration (scope op card root chain) (take own words) depth d) n after
         → Wrote out after words n 0 at pairs (declarationMade op card root f depth chain at (span from to) owner₀ held)
     unfolding declarationMade
-    other-gives b out words pairs n after e x =
+    other-gives b out words pairs own n after e o x =
+        let u : Laid out 0 (declaration (scope op card root chain) (take (4 * pairs) words) depth d) n after =
+        subst (λ (v : List ℕ). Laid out 0 (declaration (scope op card root chain) v depth d) n after) (own-taken words pairs own o) x in
         rw (ne-eqb (kindOf (between card from to)) 0x62 (λ i. b (z ∙ ap kindOf y ∙ i)), ← e)
         (record {
-          length-is = rw y at (x .ends ∙ zero-add (length (declaration (scope op card root chain) words depth d)));
-          laid = rw y at (x .bytes);
+          length-is = rw y at (u .ends ∙ zero-add (length (declaration (scope op card root chain) (take (4 * pairs) words) depth d)));
+          laid = rw y at (u .bytes);
           full-is = refl;
           owner-is = refl;
           held-is = refl;
@@ -103,17 +154,21 @@ module _ (op : Shortening) (card root : Bytes) where
   -- a body: its uses, then its declarations
   module _ (f : List ℕ → Span → ℕ → Table → Made) (depth : ℕ) (chain : List ℕ) (at from to : ℕ) (mine : Table) where
     abbrev Uses : Bytes
-    Uses = importsBytes (scope op card root chain) (mine .words) (mine .count)
+    Uses = importsBytes (scope op card root chain) (ownWords mine) (mine .count)
 
     abbrev Each : Made
     Each = eachMade (declarationMade op card root f depth chain at) (spansIn card (from + 6) to) (made [] 0 at mine)
 
-    pub body-gives : (out : Bytes) (q u p : ℕ) (part part′ : Bytes) (words : List ℕ) (len full owner pairs : ℕ) (after : Bytes) → q ≡ min 6 (length out)
-        → Laid (lent out q) 0 Uses u part → p ≡ min (u + 6) (length (back out q part)) → Wrote (lent (back out q part) p) part′ words len full owner pairs Each
+    pub body-gives : (out : Bytes) (q k u p : ℕ) (part part′ : Bytes) (words : List ℕ) (len full owner pairs : ℕ) (after : Bytes) → q ≡ min 6 (length out)
+        → k ≡ min (4 * mine .count) (length (mine .words))
+        → Laid (lent out q) 0 (importsBytes (scope op card root chain) (take k (mine .words)) (mine .count)) u part → p ≡ min (u + 6) (length (back out q part)) → Wrote (lent (back out q part) p) part′ words len full owner pairs Each
         → after ≡ lay (back (back out q part) p part′) 0 (headBytes (u + len + 2) 2)
         → Wrote out after words (u + len + 6) full owner pairs (bodyMade op card root f depth chain at (span from to) mine)
     unfolding bodyMade
-    body-gives out q u p part part′ words len full owner pairs after e x g w h =
+    body-gives out q k u p part part′ words len full owner pairs after e o x′ g w h =
+        let x : Laid (lent out q) 0 Uses u part =
+        subst (λ (v : List ℕ). Laid (lent out q) 0 (importsBytes (scope op card root chain) v (mine .count)) u part) (own-taken (mine .words) (mine .count) k o) x′
+        in
         record {
           length-is =
               (let l = record-length 0x02 (Uses ++ Each .bytes) in

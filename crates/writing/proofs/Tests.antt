@@ -1,20 +1,18 @@
 -- A module, test by test: what is left, a full table, and a Mod that is written anew. Assumes nothing.
 use mathlib.Core.Path.{_≡_, refl, sym, ap, subst, _∙_}
-use mathlib.Core.Bool.{true, false, not, cond}
 use mathlib.Core.List.{List, [], _∷_, _++_}
-use Prim.Native.Nat.{ℕ, zero, suc, _+_, _-_, _*_, _<_, _≤_}
+use Prim.Native.Nat.{ℕ, suc, _+_, _-_, _<_, _≤_}
 use native.Mathlib.Omega.{arith}
 use lib.ListN.{length, length-append}
-use lib.Dec.{eqb, ltb}
 use borrow.Author.Tests.{eq-eqb, ne-eqb, lt-ltb, le-ltb}
 use Rattle.wire.specs.Numbers.{Bytes, between}
 use Rattle.records.specs.Record.{kindOf, contentOf}
 use Rattle.operation.specs.declared.Shortening.{Shortening}
 use Rattle.prefix.specs.Prefix.{scope}
 use Rattle.chains.specs.Chains.{room}
-use Rattle.adding.specs.Adds.{Table, table}
+use Rattle.adding.specs.Adds.{table}
 use Rattle.fields.specs.Fields.{namePlace}
-use Rattle.gathering.specs.Gathers.{Span, span}
+use Rattle.gathering.specs.Gathers.{span}
 use Rattle.gathering.proofs.Spans.{between-length}
 use Rattle.rewriting.proofs.Lengths.{content-inside}
 use Rattle.tables.specs.Tables.{tableOf}

@@ -9,7 +9,7 @@ use Rattle.operation.specs.declared.Shortening.{Shortening}
 use Rattle.adding.specs.Adds.{table}
 use Rattle.gathering.specs.Gathers.{Span, span, spansIn}
 use Rattle.laying.specs.Lays.{lay}
-use Rattle.modules.specs.Modules.{Made, made, aheadIn, modMade, eachMade, declarationMade, bodyMade, moduleMade}
+use Rattle.modules.specs.Modules.{Made, made, aheadIn, modMade, innerMade, eachMade, declarationMade, bodyMade, moduleMade}
 
 -- out and the words after a call, its four answers, and what is made
 pub record Wrote (out after : Bytes) (words : List ℕ) (length full owner pairs : ℕ) (m : Made) : Type 0 where
@@ -28,6 +28,9 @@ pub record Within (from to : ℕ) (card : Bytes) (chain : List ℕ) (left : ℕ)
 
 -- what is made of the module at a place, which has this chain and is at most left deep, of its body and of its declarations, where the words hold its table
 module _ (op : Shortening) (card root : Bytes) (left : ℕ) (chain : List ℕ) (at : ℕ) where
+  abbrev pub innerAt : Span → (owner pairs : ℕ) → List ℕ → Made
+  innerAt d owner pairs words = innerMade (moduleMade op card root left chain) at d owner (table pairs words)
+
   abbrev pub declarationAt : Span → (owner pairs : ℕ) → List ℕ → Made
   declarationAt d owner pairs words =
       declarationMade op card root (moduleMade op card root (left - 1)) left chain at d owner (table pairs words)

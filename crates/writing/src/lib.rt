@@ -1,6 +1,6 @@
-// Writing a module: functions for a module, its body and a declaration call each other in a ring, the remaining depth falling. The work words hold one module's
-// table at a time. Each is lent the part of the out buffer that starts where its parent has got to, and writes as far as that reaches: with an empty part, it
-// measures.
+// Writing a module: functions for a module, its body and a declaration call each other in a ring, the remaining depth falling. The work words hold a module's
+// table, and behind it those of modules in it. Each is lent the part of the out buffer that starts where its parent has got to, and writes as far as that
+// reaches: with an empty part, it measures.
 use operation::Shortening;
 use tables::Held;
 ghost use mathlib.Core.Path.{_≡_};
@@ -10,7 +10,7 @@ ghost use lib.ListN.{length, take};
 ghost use Rattle.adding.specs.Adds.{table};
 ghost use Rattle.gathering.specs.Gathers.{span};
 ghost use Rattle.modules.specs.Modules.{firstFull, moduleMade, cardMade};
-ghost use Rattle.writing.specs.Wrote.{Wrote, Within, declarationAt, declarationsAt, bodyAt, modAt};
+ghost use Rattle.writing.specs.Wrote.{Wrote, Within, innerAt, declarationAt, declarationsAt, bodyAt, modAt};
 
 // How long what was made is; the place after that of the first module whose table is full, 0 where none is; whose table the words hold, and its pairs.
 pub struct Piece {
@@ -175,7 +175,8 @@ fn write_body(
         (bodyAt op (now (card .entry)) (now (root .entry)) left (now (chain .entry)) at from to pairs (now (work .entry))) ⌝ }
 {
     let q = laying::least(6, out.len());
-    let u = importing::write_imports(op, card, root, chain, work, pairs, &mut out[q..]);
+    let k = tables::own_words(work, pairs);
+    let u = importing::write_imports(op, card, root, chain, &work[..k], pairs, &mut out[q..]);
     let p = laying::least(u + 6, out.len());
     let d = write_declarations(
         op,
@@ -263,7 +264,77 @@ fn write_declarations(
     }
 }
 
-// A declaration of the module at a place: a nested module goes to the part of out behind the declaration's head; any other needs the module's table.
+// A declaration of the module at a place that holds a module, which goes to the part of out behind the declaration's head. Its table goes to the words behind
+// those of the module at the place, where they have room: that table then stays. Else it has all words.
+fn write_inner(
+    op: Shortening,
+    card: &[u8],
+    at: usize,
+    from: usize,
+    to: usize,
+    left: usize,
+    root: &[u8],
+    chain: &[usize],
+    out: &mut [u8],
+    work: &mut [u32],
+    owner: usize,
+    pairs: usize,
+) -> Piece
+    requires { ⌜ Within (from + 6) to (now card) (now chain) left × (left ≤ 48) ⌝ }
+    ensures { λ r. ⌜ Wrote (now (out .entry)) (now (out .exit)) (now (work .exit)) (r .length) (r .full) (r .owner) (r .pairs)
+        (innerAt op (now (card .entry)) (now (root .entry)) left (now (chain .entry)) at (span from to) owner pairs (now (work .entry))) ⌝ }
+{
+    let q = laying::least(6, out.len());
+    let held = Held {
+        owner: owner,
+        pairs: pairs,
+    };
+    if tables::has_room_beside(work, held, at, to - from) {
+        let k = tables::own_words(work, pairs);
+        let b = write_module(
+            op,
+            card,
+            from + 6,
+            to,
+            left,
+            root,
+            chain,
+            &mut out[q..],
+            &mut work[k..],
+            65537,
+            0,
+        );
+        laying::lay_head(b.length + 2, 0x62, out, 0);
+        return Piece {
+            length: b.length + 6,
+            full: b.full,
+            owner: at,
+            pairs: pairs,
+        };
+    }
+    let m = write_module(
+        op,
+        card,
+        from + 6,
+        to,
+        left,
+        root,
+        chain,
+        &mut out[q..],
+        work,
+        owner,
+        pairs,
+    );
+    laying::lay_head(m.length + 2, 0x62, out, 0);
+    Piece {
+        length: m.length + 6,
+        full: m.full,
+        owner: m.owner,
+        pairs: m.pairs,
+    }
+}
+
+// A declaration of the module at a place: one that holds no module needs the module's table.
 fn write_declaration(
     op: Shortening,
     card: &[u8],
@@ -284,27 +355,20 @@ fn write_declaration(
 {
     let r = wire::part(card, from, to - from);
     if reader::record_kind(r) == 0x62 {
-        let q = laying::least(6, out.len());
-        let m = write_module(
+        return write_inner(
             op,
             card,
-            from + 6,
+            at,
+            from,
             to,
             left - 1,
             root,
             chain,
-            &mut out[q..],
+            out,
             work,
             owner,
             pairs,
         );
-        laying::lay_head(m.length + 2, 0x62, out, 0);
-        return Piece {
-            length: m.length + 6,
-            full: m.full,
-            owner: m.owner,
-            pairs: m.pairs,
-        };
     }
     let held = tables::table_of(
         op,
@@ -319,12 +383,14 @@ fn write_declaration(
             pairs: pairs,
         },
     );
-    let n = replacing::replace(op, card, root, chain, work, r, left, out);
+    let mine = held.pairs;
+    let k = tables::own_words(work, mine);
+    let n = replacing::replace(op, card, root, chain, &work[..k], r, left, out);
     Piece {
         length: n,
         full: 0,
         owner: at,
-        pairs: held.pairs,
+        pairs: mine,
     }
 }
 

@@ -1,18 +1,16 @@
 -- The ring of `writing` meets its contracts: the laws of Ring at each member. Assumes nothing.
 use mathlib.Core.Path.{_≡_, refl, sym, ap, _∙_}
-use mathlib.Core.List.{[], _∷_}
-use Prim.Native.Nat.{ℕ, _+_, _*_, _-_, _<_, _≤_, min}
+use mathlib.Core.List.{[]}
+use Prim.Native.Nat.{ℕ, _+_, _*_, _-_, _<_}
 use native.Mathlib.Omega.{arith}
-use lib.ListN.{length, length-append}
+use lib.ListN.{length, take, drop, length-append}
+use lib.Seq.{length-take-le}
 use borrow.Author.Needs.{needs}
-use Rattle.records.specs.Record.{lengthOf, contentOf}
-use Rattle.wire.specs.Numbers.{between}
 use Rattle.prefix.specs.Prefix.{scope}
 use Rattle.adding.specs.Adds.{table}
-use Rattle.gathering.specs.Gathers.{span, spansIn}
-use Rattle.modules.specs.Modules.{made, declarationMade, eachMade, bodyMade, moduleMade, aheadIn}
+use Rattle.modules.specs.Modules.{made, declarationMade, moduleMade}
 use Rattle.modules.proofs.Bound.{module-bound, declaration-bound, declarations-bound, body-bound, imports-bound}
-use Rattle.writing.proofs.Pieces.{nested-gives, other-gives, body-gives, body-inside, ahead-is, ahead-long, mod-all}
+use Rattle.writing.proofs.Pieces.{beside-gives, alone-gives, inner-gives, other-gives, body-gives, body-inside, mod-all}
 use Rattle.writing.proofs.Going.{Going, going-none, going-long, going-short, going-end, next-fits, going-next}
 use Rattle.writing.proofs.Tests.{module-shallow, module-other, module-full, module-mod, names-fit}
 use Rattle.writing.proofs.Tests.{within-inner, within-part, within-zero, content-small, fits-room, inside-card}
@@ -20,19 +18,22 @@ use borrow.Fn.Kinds.{In}
 use borrow.Fn.PlainCycle.{Measures, is, falls, and}
 use Rattle.writing.proofs.write_body.Reads as write-body
 use Rattle.writing.proofs.write_body.Kinds as write-body-kinds
-use Rattle.writing.proofs.+write_body+write_declaration+write_declarations+write_mod+write_module.Lts-write_body as write-body-lts
+use Rattle.writing.proofs.+write_body+write_declaration+write_declarations+write_inner+write_mod+write_module.Lts-write_body as write-body-lts
 use Rattle.writing.proofs.write_declaration.Reads as write-declaration
 use Rattle.writing.proofs.write_declaration.Kinds as write-declaration-kinds
-use Rattle.writing.proofs.+write_body+write_declaration+write_declarations+write_mod+write_module.Lts-write_declaration as write-declaration-lts
+use Rattle.writing.proofs.+write_body+write_declaration+write_declarations+write_inner+write_mod+write_module.Lts-write_declaration as write-declaration-lts
 use Rattle.writing.proofs.write_declarations.Reads as write-declarations
 use Rattle.writing.proofs.write_declarations.Kinds as write-declarations-kinds
-use Rattle.writing.proofs.+write_body+write_declaration+write_declarations+write_mod+write_module.Lts-write_declarations as write-declarations-lts
+use Rattle.writing.proofs.+write_body+write_declaration+write_declarations+write_inner+write_mod+write_module.Lts-write_declarations as write-declarations-lts
+use Rattle.writing.proofs.write_inner.Reads as write-inner
+use Rattle.writing.proofs.write_inner.Kinds as write-inner-kinds
+use Rattle.writing.proofs.+write_body+write_declaration+write_declarations+write_inner+write_mod+write_module.Lts-write_inner as write-inner-lts
 use Rattle.writing.proofs.write_mod.Reads as write-mod
 use Rattle.writing.proofs.write_mod.Kinds as write-mod-kinds
-use Rattle.writing.proofs.+write_body+write_declaration+write_declarations+write_mod+write_module.Lts-write_mod as write-mod-lts
+use Rattle.writing.proofs.+write_body+write_declaration+write_declarations+write_inner+write_mod+write_module.Lts-write_mod as write-mod-lts
 use Rattle.writing.proofs.write_module.Reads as write-module
 use Rattle.writing.proofs.write_module.Kinds as write-module-kinds
-use Rattle.writing.proofs.+write_body+write_declaration+write_declarations+write_mod+write_module.Lts-write_module as write-module-lts
+use Rattle.writing.proofs.+write_body+write_declaration+write_declarations+write_inner+write_mod+write_module.Lts-write_module as write-module-lts
 use Rattle.chains.proofs.room.Reads as room-reads
 use Rattle.fields.proofs.name_place.Reads as name-place-reads
 use Rattle.importing.proofs.write_imports.Reads as write-imports-reads
@@ -45,31 +46,32 @@ use Rattle.reader.proofs.record_kind.Reads as record-kind-reads
 use Rattle.reader.proofs.record_length.Reads as record-length-reads
 use Rattle.reader.proofs.rest.Reads as rest-reads
 use Rattle.replacing.proofs.replace.Reads as replace-reads
+use Rattle.tables.proofs.has_room_beside.Reads as has-room-beside-reads
+use Rattle.tables.proofs.own_words.Reads as own-words-reads
 use Rattle.tables.proofs.table_of.Reads as table-of-reads
 use Rattle.wire.proofs.part.Reads as part-reads
 use Rattle.writing.proofs.extended.Reads as extended-reads
 use Rattle.writing.proofs.first_full.Reads as first-full-reads
-use Rattle.writing.proofs.+write_body+write_declaration+write_declarations+write_mod+write_module.{
-  statement,
-}
-use Rattle.writing.proofs.+write_body+write_declaration+write_declarations+write_mod+write_module.Tie.{
-  close,
-}
+use Rattle.writing.proofs.+write_body+write_declaration+write_declarations+write_inner+write_mod+write_module.{statement}
+use Rattle.writing.proofs.+write_body+write_declaration+write_declarations+write_inner+write_mod+write_module.Tie.{close}
 
 abbrev μ-write-body : Measures 5 write-body-kinds.ps ℕ
-μ-write-body κs a = 5 * a .1 .1 .1 .1 .1 .0 + 2
+μ-write-body κs a = 6 * a .1 .1 .1 .1 .1 .0 + 3
 
 abbrev μ-write-declaration : Measures 5 write-declaration-kinds.ps ℕ
-μ-write-declaration κs a = 5 * a .1 .1 .1 .1 .1 .0
+μ-write-declaration κs a = 6 * a .1 .1 .1 .1 .1 .0 + 1
 
 abbrev μ-write-declarations : Measures 5 write-declarations-kinds.ps ℕ
-μ-write-declarations κs a = 5 * a .1 .1 .1 .1 .1 .0 + 1
+μ-write-declarations κs a = 6 * a .1 .1 .1 .1 .1 .0 + 2
+
+abbrev μ-write-inner : Measures 5 write-inner-kinds.ps ℕ
+μ-write-inner κs a = 6 * a .1 .1 .1 .1 .1 .0 + 6
 
 abbrev μ-write-mod : Measures 5 write-mod-kinds.ps ℕ
-μ-write-mod κs a = 5 * a .1 .1 .1 .1 .0 + 3
+μ-write-mod κs a = 6 * a .1 .1 .1 .1 .0 + 4
 
 abbrev μ-write-module : Measures 5 write-module-kinds.ps ℕ
-μ-write-module κs a = 5 * a .1 .1 .1 .1 .0 + 4
+μ-write-module κs a = 6 * a .1 .1 .1 .1 .0 + 5
 
 abbrev write-body-at : ℕ → In 5 write-body-kinds.ps
 write-body-at t =
@@ -111,6 +113,14 @@ write-declarations-below t =
     (falls 5 write-declarations-kinds.ps _<_ μ-write-declarations t)
     write-declarations.Pre
 
+abbrev write-inner-at : ℕ → In 5 write-inner-kinds.ps
+write-inner-at t =
+    and 5 write-inner-kinds.ps (is 5 write-inner-kinds.ps μ-write-inner t) write-inner.Pre
+
+abbrev write-inner-below : ℕ → In 5 write-inner-kinds.ps
+write-inner-below t =
+    and 5 write-inner-kinds.ps (falls 5 write-inner-kinds.ps _<_ μ-write-inner t) write-inner.Pre
+
 abbrev write-mod-at : ℕ → In 5 write-mod-kinds.ps
 write-mod-at t = and 5 write-mod-kinds.ps (is 5 write-mod-kinds.ps μ-write-mod t) write-mod.Pre
 
@@ -134,6 +144,8 @@ abbrev write-body-calls : ℕ → write-body-lts.Claims
 write-body-calls t = (
   least-reads.Asked,
   least-reads.Learnt,
+  own-words-reads.Asked,
+  own-words-reads.Learnt,
   write-imports-reads.Asked,
   write-imports-reads.Learnt,
   write-declarations-below t,
@@ -148,14 +160,12 @@ write-declaration-calls t = (
   part-reads.Learnt,
   record-kind-reads.Asked,
   record-kind-reads.Learnt,
-  least-reads.Asked,
-  least-reads.Learnt,
-  write-module-below t,
-  write-module.Post,
-  lay-head-reads.Asked,
-  lay-head-reads.Learnt,
+  write-inner-below t,
+  write-inner.Post,
   table-of-reads.Asked,
   table-of-reads.Learnt,
+  own-words-reads.Asked,
+  own-words-reads.Learnt,
   replace-reads.Asked,
   replace-reads.Learnt,
 )
@@ -174,6 +184,20 @@ write-declarations-calls t = (
   write-declaration.Post,
   first-full-reads.Asked,
   first-full-reads.Learnt,
+)
+
+abbrev write-inner-calls : ℕ → write-inner-lts.Claims
+write-inner-calls t = (
+  least-reads.Asked,
+  least-reads.Learnt,
+  has-room-beside-reads.Asked,
+  has-room-beside-reads.Learnt,
+  own-words-reads.Asked,
+  own-words-reads.Learnt,
+  write-module-below t,
+  write-module.Post,
+  lay-head-reads.Asked,
+  lay-head-reads.Learnt,
 )
 
 abbrev write-mod-calls : ℕ → write-mod-lts.Claims
@@ -217,14 +241,27 @@ write-module-calls t = (
 write-body-least-requires : (t : ℕ) → write-body-lts.Need-least-requires (write-body-calls t) (write-body-at t) write-body.Post
 write-body-least-requires t c κs = search needs
 
+write-body-own-words-requires : (t : ℕ) → write-body-lts.Need-own-words-requires (write-body-calls t) (write-body-at t) write-body.Post
+write-body-own-words-requires t c κs = search needs
+
+write-body-slice-reshare-prefix-write-imports :
+    (t : ℕ) → write-body-lts.Need-slice-reshare-prefix-write-imports (write-body-calls t) (write-body-at t) write-body.Post
+write-body-slice-reshare-prefix-write-imports t c = search needs
+
+write-body-slice-aggregate-write-imports :
+    (t : ℕ) → write-body-lts.Need-slice-aggregate-write-imports (write-body-calls t) (write-body-at t) write-body.Post
+write-body-slice-aggregate-write-imports t c =
+    let own-words = c .before .own-words in
+    sym (length-take-le _ _ (omega (arith, own-words .ensures)))
+
 write-body-sub-write-imports : (t : ℕ) → write-body-lts.Need-sub-write-imports (write-body-calls t) (write-body-at t) write-body.Post
 write-body-sub-write-imports t c =
-    let least = c .before .least in
+    let least = c .before .before .before .least in
     omega (arith, least .ensures)
 
 write-body-part-write-imports-start : (t : ℕ) → write-body-lts.Need-part-write-imports-start (write-body-calls t) (write-body-at t) write-body.Post
 write-body-part-write-imports-start t c =
-    let least = c .before .least in
+    let least = c .before .before .before .least in
     omega (arith, least .ensures)
 
 write-body-part-write-imports-end : (t : ℕ) → write-body-lts.Need-part-write-imports-end (write-body-calls t) (write-body-at t) write-body.Post
@@ -235,12 +272,14 @@ write-body-write-imports-requires t c κs = search needs
 
 write-body-add-least : (t : ℕ) → write-body-lts.Need-add-least (write-body-calls t) (write-body-at t) write-body.Post
 write-body-add-least t c =
-    let args = c .before .before .before .before .before .before .before .before .before .before .before .args in
-    let pre = c .before .before .before .before .before .before .before .before .before .before .before .pre in
+    let args = c .before .before .before .before .before .before .before .before .before .before .before .before .before .args in
+    let pre = c .before .before .before .before .before .before .before .before .before .before .before .before .before .pre in
+    let own-words = c .before .before .before .before .before .own-words in
     let write-imports = c .before .before .write-imports in
     omega (
       arith,
-      imports-bound (scope (args .op) (args .card .now) (args .root .now) (args .chain .now)) (args .work .now) ((pre .1 .0) .small) (args .pairs),
+      imports-bound (scope (args .op) (args .card .now) (args .root .now) (args .chain .now)) (take (own-words .result) (args .work .now))
+          ((pre .1 .0) .small) (args .pairs),
       write-imports .ensures .ends,
     )
 
@@ -249,7 +288,7 @@ write-body-least-requires-2 t c κs = search needs
 
 write-body-add-write-declarations : (t : ℕ) → write-body-lts.Need-add-write-declarations (write-body-calls t) (write-body-at t) write-body.Post
 write-body-add-write-declarations t c =
-    let pre = c .before .before .before .before .before .before .before .before .before .before .before .before .pre in
+    let pre = c .before .before .before .before .before .before .before .before .before .before .before .before .before .before .pre in
     omega (arith, pre .1 .3)
 
 write-body-sub-write-declarations : (t : ℕ) → write-body-lts.Need-sub-write-declarations (write-body-calls t) (write-body-at t) write-body.Post
@@ -257,7 +296,8 @@ write-body-sub-write-declarations t c =
     let least2 = c .least2 in
     omega (arith, least2 .ensures)
 
-write-body-part-write-declarations-start : (t : ℕ) → write-body-lts.Need-part-write-declarations-start (write-body-calls t) (write-body-at t) write-body.Post
+write-body-part-write-declarations-start :
+    (t : ℕ) → write-body-lts.Need-part-write-declarations-start (write-body-calls t) (write-body-at t) write-body.Post
 write-body-part-write-declarations-start t c =
     let least2 = c .least2 in
     omega (arith, least2 .ensures)
@@ -267,20 +307,22 @@ write-body-part-write-declarations-end t c = search needs
 
 write-body-write-declarations-requires : (t : ℕ) → write-body-lts.Need-write-declarations-requires (write-body-calls t) (write-body-at t) write-body.Post
 write-body-write-declarations-requires t c κs =
-    let pre = c .before .before .before .before .before .before .before .before .before .before .before .before .before .before .pre in
+    let pre = c .before .before .before .before .before .before .before .before .before .before .before .before .before .before .before .before .pre in
     (omega (arith, pre .0), ((pre .1 .0), pre .1 .1, pre .1 .2, omega (arith, pre .1 .3)))
 
 write-body-add-n : (t : ℕ) → write-body-lts.Need-add-n (write-body-calls t) (write-body-at t) write-body.Post
 write-body-add-n t c =
     let args = c .before .before .before .before .before .before .before .before .before .before .before .before .before .before .before .before .before
-    .before .before .before .args in
-    let pre = c .before .before .before .before .before .before .before .before .before .before .before .before .before .before .before .before .before .before
-    .before .before .pre in
+    .before .before .before .before .before .args in
+    let pre = c .before .before .before .before .before .before .before .before .before .before .before .before .before .before .before .before .before
+    .before .before .before .before .before .pre in
+    let own-words = c .before .before .before .before .before .before .before .before .before .before .before .before .before .before .own-words in
     let write-imports = c .before .before .before .before .before .before .before .before .before .before .before .write-imports in
     let write-declarations = c .before .before .before .before .before .write-declarations in
     omega (
       arith,
-      imports-bound (scope (args .op) (args .card .now) (args .root .now) (args .chain .now)) (args .work .now) ((pre .1 .0) .small) (args .pairs),
+      imports-bound (scope (args .op) (args .card .now) (args .root .now) (args .chain .now)) (take (own-words .result) (args .work .now))
+          ((pre .1 .0) .small) (args .pairs),
       write-imports .ensures .ends,
       declarations-bound (args .op) (args .card .now) (args .root .now) ((pre .1 .0) .small) ((args .left) - 1)
           (omega (arith, pre .1 .2)) (args .left) (pre .1 .2) (args .chain .now) (args .at) (args .from + 6) (args .to) ((pre .1 .0) .inside)
@@ -293,14 +335,16 @@ write-body-add-n t c =
 write-body-add-lay-head : (t : ℕ) → write-body-lts.Need-add-lay-head (write-body-calls t) (write-body-at t) write-body.Post
 write-body-add-lay-head t c =
     let args = c .before .before .before .before .before .before .before .before .before .before .before .before .before .before .before .before .before
-    .before .before .before .args in
-    let pre = c .before .before .before .before .before .before .before .before .before .before .before .before .before .before .before .before .before .before
-    .before .before .pre in
+    .before .before .before .before .before .args in
+    let pre = c .before .before .before .before .before .before .before .before .before .before .before .before .before .before .before .before .before
+    .before .before .before .before .before .pre in
+    let own-words = c .before .before .before .before .before .before .before .before .before .before .before .before .before .before .own-words in
     let write-imports = c .before .before .before .before .before .before .before .before .before .before .before .write-imports in
     let write-declarations = c .before .before .before .before .before .write-declarations in
     omega (
       arith,
-      imports-bound (scope (args .op) (args .card .now) (args .root .now) (args .chain .now)) (args .work .now) ((pre .1 .0) .small) (args .pairs),
+      imports-bound (scope (args .op) (args .card .now) (args .root .now) (args .chain .now)) (take (own-words .result) (args .work .now))
+          ((pre .1 .0) .small) (args .pairs),
       write-imports .ensures .ends,
       declarations-bound (args .op) (args .card .now) (args .root .now) ((pre .1 .0) .small) ((args .left) - 1)
           (omega (arith, pre .1 .2)) (args .left) (pre .1 .2) (args .chain .now) (args .at) (args .from + 6) (args .to) ((pre .1 .0) .inside)
@@ -313,18 +357,21 @@ write-body-add-lay-head t c =
 write-body-lay-head-requires : (t : ℕ) → write-body-lts.Need-lay-head-requires (write-body-calls t) (write-body-at t) write-body.Post
 write-body-lay-head-requires t c κs = search needs
 
-write-body-add-t23 : (t : ℕ) → write-body-lts.Need-add-t23 (write-body-calls t) (write-body-at t) write-body.Post
-write-body-add-t23 t c =
+write-body-add-t26 : (t : ℕ) → write-body-lts.Need-add-t26 (write-body-calls t) (write-body-at t) write-body.Post
+write-body-add-t26 t c =
     let args = c .before .before .before .before .before .before .before .before .before .before .before .before .before .before .before .before .before
-    .before .before .before .before .before .before .before .args in
-    let pre = c .before .before .before .before .before .before .before .before .before .before .before .before .before .before .before .before .before .before
-    .before .before .before .before .before .before .pre in
-    let write-imports = c .before .before .before .before .before .before .before .before .before .before .before .before .before .before .before
-    .write-imports in
+    .before .before .before .before .before .before .before .before .before .args in
+    let pre = c .before .before .before .before .before .before .before .before .before .before .before .before .before .before .before .before .before
+    .before .before .before .before .before .before .before .before .before .pre in
+    let own-words = c .before .before .before .before .before .before .before .before .before .before .before .before .before .before .before .before
+    .before .before .own-words in
+    let write-imports = c .before .before .before .before .before .before .before .before .before .before .before .before .before .before
+    .before .write-imports in
     let write-declarations = c .before .before .before .before .before .before .before .before .before .write-declarations in
     omega (
       arith,
-      imports-bound (scope (args .op) (args .card .now) (args .root .now) (args .chain .now)) (args .work .now) ((pre .1 .0) .small) (args .pairs),
+      imports-bound (scope (args .op) (args .card .now) (args .root .now) (args .chain .now)) (take (own-words .result) (args .work .now))
+          ((pre .1 .0) .small) (args .pairs),
       write-imports .ensures .ends,
       declarations-bound (args .op) (args .card .now) (args .root .now) ((pre .1 .0) .small) ((args .left) - 1)
           (omega (arith, pre .1 .2)) (args .left) (pre .1 .2) (args .chain .now) (args .at) (args .from + 6) (args .to) ((pre .1 .0) .inside)
@@ -343,17 +390,19 @@ write-body-same-length-2 t c = search needs
 write-body-returns : (t : ℕ) → write-body-lts.Need-returns (write-body-calls t) (write-body-at t) write-body.Post
 write-body-returns t c =
     let args = c .before .before .before .before .before .before .before .before .before .before .before .before .before .before .before .before .before
-    .before .before .before .before .before .before .before .args in
+    .before .before .before .before .before .before .before .before .before .args in
     let least = c .before .before .before .before .before .before .before .before .before .before .before .before .before .before .before .before .before
-    .before .least in
-    let write-imports = c .before .before .before .before .before .before .before .before .before .before .before .before .before .before .before
-    .write-imports in
+    .before .before .before .least in
+    let own-words = c .before .before .before .before .before .before .before .before .before .before .before .before .before .before .before .before
+    .before .before .own-words in
+    let write-imports = c .before .before .before .before .before .before .before .before .before .before .before .before .before .before
+    .before .write-imports in
     let least2 = c .before .before .before .before .before .before .before .before .before .before .before .before .least2 in
     let write-declarations = c .before .before .before .before .before .before .before .before .before .write-declarations in
     let lay-head = c .before .before .lay-head in
     body-gives (args .op) (args .card .now) (args .root .now) (moduleMade (args .op) (args .card .now) (args .root .now) ((args .left) - 1)) (args .left)
-    (args .chain .now) (args .at) (args .from) (args .to) (table (args .pairs) (args .work .now)) (args .out .now) _ _ _ _ _ _ _ _ _ _ _ (least .ensures)
-    (write-imports .ensures) (least2 .ensures) (write-declarations .ensures) (lay-head .ensures)
+    (args .chain .now) (args .at) (args .from) (args .to) (table (args .pairs) (args .work .now)) (args .out .now) _ _ _ _ _ _ _ _ _ _ _ _ (least .ensures)
+    (own-words .ensures) (write-imports .ensures) (least2 .ensures) (write-declarations .ensures) (lay-head .ensures)
 
 write-declaration-sub-part : (t : ℕ) → write-declaration-lts.Need-sub-part (write-declaration-calls t) (write-declaration-at t) write-declaration.Post
 write-declaration-sub-part t c =
@@ -363,82 +412,14 @@ write-declaration-sub-part t c =
 write-declaration-part-requires : (t : ℕ) → write-declaration-lts.Need-part-requires (write-declaration-calls t) (write-declaration-at t) write-declaration.Post
 write-declaration-part-requires t c κs = search needs
 
-write-declaration-record-kind-requires : (t : ℕ) → write-declaration-lts.Need-record-kind-requires (write-declaration-calls t) (write-declaration-at t)
-    write-declaration.Post
+write-declaration-record-kind-requires : (t : ℕ) → write-declaration-lts.Need-record-kind-requires (write-declaration-calls t) (write-declaration-at t) write-declaration.Post
 write-declaration-record-kind-requires t c κs = search needs
 
-write-declaration-least-requires : (t : ℕ) → write-declaration-lts.Need-least-requires (write-declaration-calls t) (write-declaration-at t)
-    write-declaration.Post
-write-declaration-least-requires t c κs = search needs
+write-declaration-sub-write-inner : (t : ℕ) → write-declaration-lts.Need-sub-write-inner (write-declaration-calls t) (write-declaration-at t) write-declaration.Post
+write-declaration-sub-write-inner t c = search needs
 
-write-declaration-add-write-module : (t : ℕ) → write-declaration-lts.Need-add-write-module (write-declaration-calls t) (write-declaration-at t)
-    write-declaration.Post
-write-declaration-add-write-module t c =
-    let pre = c .before .before .before .before .before .before .before .before .before .pre in
-    omega (arith, (pre .1 .0) .ordered, (pre .1 .0) .inside, (pre .1 .0) .small)
-
-write-declaration-sub-write-module : (t : ℕ) → write-declaration-lts.Need-sub-write-module (write-declaration-calls t) (write-declaration-at t)
-    write-declaration.Post
-write-declaration-sub-write-module t c =
-    let pre = c .before .before .before .before .before .before .before .before .before .pre in
-    omega (arith, pre .1 .1)
-
-write-declaration-sub-write-module-2 : (t : ℕ) → write-declaration-lts.Need-sub-write-module-2 (write-declaration-calls t) (write-declaration-at t)
-    write-declaration.Post
-write-declaration-sub-write-module-2 t c =
-    let least = c .least in
-    omega (arith, least .ensures)
-
-write-declaration-part-write-module-start : (t : ℕ) → write-declaration-lts.Need-part-write-module-start (write-declaration-calls t) (write-declaration-at t)
-    write-declaration.Post
-write-declaration-part-write-module-start t c =
-    let least = c .least in
-    omega (arith, least .ensures)
-
-write-declaration-part-write-module-end : (t : ℕ) → write-declaration-lts.Need-part-write-module-end (write-declaration-calls t) (write-declaration-at t)
-    write-declaration.Post
-write-declaration-part-write-module-end t c = search needs
-
-write-declaration-write-module-requires : (t : ℕ) → write-declaration-lts.Need-write-module-requires (write-declaration-calls t) (write-declaration-at t)
-    write-declaration.Post
-write-declaration-write-module-requires t c κs =
-    let pre = c .before .before .before .before .before .before .before .before .before .before .before .pre in
-    (omega (arith, pre .0, pre .1 .1), (pre .1 .0))
-
-write-declaration-add-lay-head : (t : ℕ) → write-declaration-lts.Need-add-lay-head (write-declaration-calls t) (write-declaration-at t) write-declaration.Post
-write-declaration-add-lay-head t c =
-    let args = c .before .before .before .before .before .before .before .before .before .before .before .before .before .before .before .before .before .args
-    in
-    let pre = c .before .before .before .before .before .before .before .before .before .before .before .before .before .before .before .before .before .pre in
-    let write-module = c .before .before .before .before .before .write-module in
-    omega (
-      arith,
-      module-bound (args .op) (args .card .now) (args .root .now) ((pre .1 .0) .small) ((args .left) - 1) (omega (arith, pre .1 .2))
-          (args .chain .now) (args .from + 6) (args .to) ((pre .1 .0) .ordered) ((pre .1 .0) .inside) (args .owner) (table (args .pairs) (args .work .now)),
-      write-module .ensures .length-is,
-      (pre .1 .0) .inside,
-      (pre .1 .0) .small,
-    )
-
-write-declaration-lay-head-requires : (t : ℕ) → write-declaration-lts.Need-lay-head-requires (write-declaration-calls t) (write-declaration-at t)
-    write-declaration.Post
-write-declaration-lay-head-requires t c κs = search needs
-
-write-declaration-add-t23 : (t : ℕ) → write-declaration-lts.Need-add-t23 (write-declaration-calls t) (write-declaration-at t) write-declaration.Post
-write-declaration-add-t23 t c =
-    let args = c .before .before .before .before .before .before .before .before .before .before .before .before .before .before .before .before .before
-    .before .before .before .before .before .args in
-    let pre = c .before .before .before .before .before .before .before .before .before .before .before .before .before .before .before .before .before .before
-    .before .before .before .before .pre in
-    let write-module = c .before .before .before .before .before .before .before .before .before .before .write-module in
-    omega (
-      arith,
-      module-bound (args .op) (args .card .now) (args .root .now) ((pre .1 .0) .small) ((args .left) - 1) (omega (arith, pre .1 .2))
-          (args .chain .now) (args .from + 6) (args .to) ((pre .1 .0) .ordered) ((pre .1 .0) .inside) (args .owner) (table (args .pairs) (args .work .now)),
-      write-module .ensures .length-is,
-      (pre .1 .0) .inside,
-      (pre .1 .0) .small,
-    )
+write-declaration-write-inner-requires : (t : ℕ) → write-declaration-lts.Need-write-inner-requires (write-declaration-calls t) (write-declaration-at t) write-declaration.Post
+write-declaration-write-inner-requires t c κs = search needs
 
 write-declaration-same-length : (t : ℕ) → write-declaration-lts.Need-same-length (write-declaration-calls t) (write-declaration-at t) write-declaration.Post
 write-declaration-same-length t c = search needs
@@ -448,24 +429,32 @@ write-declaration-same-length-2 t c = search needs
 
 write-declaration-returns : (t : ℕ) → write-declaration-lts.Need-returns (write-declaration-calls t) (write-declaration-at t) write-declaration.Post
 write-declaration-returns t c =
-    let args = c .before .before .before .before .before .before .before .before .before .before .before .before .before .before .before .before .before
-    .before .before .before .before .before .args in
-    let part = c .before .before .before .before .before .before .before .before .before .before .before .before .before .before .before .before .part in
-    let record-kind = c .before .before .before .before .before .before .before .before .before .before .before .before .before .before .before .record-kind in
-    let if1 = c .before .before .before .before .before .before .before .before .before .before .before .before .before .before .if1 in
-    let least = c .before .before .before .before .before .before .before .before .before .before .before .before .before .least in
-    let write-module = c .before .before .before .before .before .before .before .before .before .before .write-module in
-    let lay-head = c .before .before .before .lay-head in
-    nested-gives (args .op) (args .card .now) (args .root .now) (moduleMade (args .op) (args .card .now) (args .root .now) ((args .left) - 1)) (args .left)
+    let args = c .before .before .before .before .before .before .before .before .before .before .before .before .before .before .before .args in
+    let part = c .before .before .before .before .before .before .before .before .before .part in
+    let record-kind = c .before .before .before .before .before .before .before .before .record-kind in
+    let if1 = c .before .before .before .before .before .before .before .if1 in
+    let write-inner = c .before .before .before .before .write-inner in
+    inner-gives (args .op) (args .card .now) (args .root .now) (moduleMade (args .op) (args .card .now) (args .root .now) ((args .left) - 1)) (args .left)
     (args .chain .now) (args .at) (args .from) (args .to) (args .owner) (table (args .pairs) (args .work .now)) _ (part .ensures) _ (record-kind .ensures .0)
-    (if1 .taken) (args .out .now) _ _ _ _ _ _ _ _ (least .ensures) (write-module .ensures) (lay-head .ensures)
+    (if1 .taken) _ _ _ _ _ _ _ (write-inner .ensures)
 
-write-declaration-table-of-requires : (t : ℕ) → write-declaration-lts.Need-table-of-requires (write-declaration-calls t) (write-declaration-at t)
-    write-declaration.Post
+write-declaration-table-of-requires : (t : ℕ) → write-declaration-lts.Need-table-of-requires (write-declaration-calls t) (write-declaration-at t) write-declaration.Post
 write-declaration-table-of-requires t c κs = search needs
 
-write-declaration-replace-requires : (t : ℕ) → write-declaration-lts.Need-replace-requires (write-declaration-calls t) (write-declaration-at t)
-    write-declaration.Post
+write-declaration-own-words-requires : (t : ℕ) → write-declaration-lts.Need-own-words-requires (write-declaration-calls t) (write-declaration-at t) write-declaration.Post
+write-declaration-own-words-requires t c κs = search needs
+
+write-declaration-slice-reshare-prefix-replace :
+    (t : ℕ) → write-declaration-lts.Need-slice-reshare-prefix-replace (write-declaration-calls t) (write-declaration-at t) write-declaration.Post
+write-declaration-slice-reshare-prefix-replace t c = search needs
+
+write-declaration-slice-aggregate-replace :
+    (t : ℕ) → write-declaration-lts.Need-slice-aggregate-replace (write-declaration-calls t) (write-declaration-at t) write-declaration.Post
+write-declaration-slice-aggregate-replace t c =
+    let own-words = c .before .own-words in
+    sym (length-take-le _ _ (omega (arith, own-words .ensures)))
+
+write-declaration-replace-requires : (t : ℕ) → write-declaration-lts.Need-replace-requires (write-declaration-calls t) (write-declaration-at t) write-declaration.Post
 write-declaration-replace-requires t c κs = search needs
 
 write-declaration-same-length-3 : (t : ℕ) → write-declaration-lts.Need-same-length-3 (write-declaration-calls t) (write-declaration-at t) write-declaration.Post
@@ -476,16 +465,17 @@ write-declaration-same-length-4 t c = search needs
 
 write-declaration-returns-2 : (t : ℕ) → write-declaration-lts.Need-returns-2 (write-declaration-calls t) (write-declaration-at t) write-declaration.Post
 write-declaration-returns-2 t c =
-    let args = c .before .before .before .before .before .before .before .before .before .before .before .before .before .before .before .before .before .args
-    in
-    let part = c .before .before .before .before .before .before .before .before .before .before .before .part in
-    let record-kind = c .before .before .before .before .before .before .before .before .before .before .record-kind in
-    let if1 = c .before .before .before .before .before .before .before .before .before .if1 in
-    let table-of = c .before .before .before .before .before .before .before .table-of in
+    let args = c .before .before .before .before .before .before .before .before .before .before .before .before .before .before .before .before .before
+    .before .before .args in
+    let part = c .before .before .before .before .before .before .before .before .before .before .before .before .before .part in
+    let record-kind = c .before .before .before .before .before .before .before .before .before .before .before .before .record-kind in
+    let if1 = c .before .before .before .before .before .before .before .before .before .before .before .if1 in
+    let table-of = c .before .before .before .before .before .before .before .before .before .table-of in
+    let own-words = c .before .before .before .before .before .own-words in
     let replace = c .before .before .replace in
     other-gives (args .op) (args .card .now) (args .root .now) (moduleMade (args .op) (args .card .now) (args .root .now) ((args .left) - 1)) (args .left)
     (args .chain .now) (args .at) (args .from) (args .to) (args .owner) (table (args .pairs) (args .work .now)) _ (part .ensures) _ (record-kind .ensures .0)
-    (if1 .left) (args .out .now) _ _ _ _ (table-of .ensures .1) (replace .ensures)
+    (if1 .left) (args .out .now) _ _ _ _ _ (table-of .ensures .1) (own-words .ensures) (replace .ensures)
 
 abbrev write-declarations-Inv-loop : write-declarations-lts.InvT-loop
 write-declarations-Inv-loop op card at from to left root chain out₀ work₀ pairs i₀ p₀ full₀ owner₀ mine₀ out work i p full owner mine =
@@ -577,7 +567,8 @@ write-declarations-add-next t c =
     let pre = c .before .before .before .before .before .before .before .before .before .before .pre in
     omega (arith, loop .inv .0 .inside, pre .1 .3, (pre .1 .0) .inside, (pre .1 .0) .small)
 
-write-declarations-record-length-requires : (t : ℕ) → write-declarations-lts.Need-record-length-requires (write-declarations-calls t)
+write-declarations-record-length-requires :
+    (t : ℕ) → write-declarations-lts.Need-record-length-requires (write-declarations-calls t)
     (write-declarations-at t)
     write-declarations.Post
     write-declarations-Inv-loop
@@ -614,7 +605,8 @@ write-declarations-least-requires : (t : ℕ) → write-declarations-lts.Need-le
     write-declarations-μ-loop
 write-declarations-least-requires t c κs = search needs
 
-write-declarations-sub-write-declaration : (t : ℕ) → write-declarations-lts.Need-sub-write-declaration (write-declarations-calls t)
+write-declarations-sub-write-declaration :
+    (t : ℕ) → write-declarations-lts.Need-sub-write-declaration (write-declarations-calls t)
     (write-declarations-at t)
     write-declarations.Post
     write-declarations-Inv-loop
@@ -623,7 +615,8 @@ write-declarations-sub-write-declaration t c =
     let least = c .least in
     omega (arith, least .ensures)
 
-write-declarations-part-write-declaration-start : (t : ℕ) → write-declarations-lts.Need-part-write-declaration-start (write-declarations-calls t)
+write-declarations-part-write-declaration-start :
+    (t : ℕ) → write-declarations-lts.Need-part-write-declaration-start (write-declarations-calls t)
     (write-declarations-at t)
     write-declarations.Post
     write-declarations-Inv-loop
@@ -632,14 +625,16 @@ write-declarations-part-write-declaration-start t c =
     let least = c .least in
     omega (arith, least .ensures)
 
-write-declarations-part-write-declaration-end : (t : ℕ) → write-declarations-lts.Need-part-write-declaration-end (write-declarations-calls t)
+write-declarations-part-write-declaration-end :
+    (t : ℕ) → write-declarations-lts.Need-part-write-declaration-end (write-declarations-calls t)
     (write-declarations-at t)
     write-declarations.Post
     write-declarations-Inv-loop
     write-declarations-μ-loop
 write-declarations-part-write-declaration-end t c = search needs
 
-write-declarations-write-declaration-requires : (t : ℕ) → write-declarations-lts.Need-write-declaration-requires (write-declarations-calls t)
+write-declarations-write-declaration-requires :
+    (t : ℕ) → write-declarations-lts.Need-write-declaration-requires (write-declarations-calls t)
     (write-declarations-at t)
     write-declarations.Post
     write-declarations-Inv-loop
@@ -819,6 +814,173 @@ write-declarations-returns-2 t c =
     ((args .left) - 1)) (args .left) (args .chain .now) (args .at)) (args .out .now) (args .from) (args .to)
     (made [] 0 (args .at) (table (args .pairs) (args .work .now))) _ _ (loop .i) (loop .p) (loop .full) (loop .owner) (loop .mine) (loop .inv .0)
     (omega (arith, loop-test .left))
+
+write-inner-least-requires : (t : ℕ) → write-inner-lts.Need-least-requires (write-inner-calls t) (write-inner-at t) write-inner.Post
+write-inner-least-requires t c κs = search needs
+
+write-inner-sub-has-room-beside : (t : ℕ) → write-inner-lts.Need-sub-has-room-beside (write-inner-calls t) (write-inner-at t) write-inner.Post
+write-inner-sub-has-room-beside t c = search needs
+
+write-inner-has-room-beside-requires : (t : ℕ) → write-inner-lts.Need-has-room-beside-requires (write-inner-calls t) (write-inner-at t) write-inner.Post
+write-inner-has-room-beside-requires t c κs = search needs
+
+write-inner-own-words-requires : (t : ℕ) → write-inner-lts.Need-own-words-requires (write-inner-calls t) (write-inner-at t) write-inner.Post
+write-inner-own-words-requires t c κs = search needs
+
+write-inner-add-write-module : (t : ℕ) → write-inner-lts.Need-add-write-module (write-inner-calls t) (write-inner-at t) write-inner.Post
+write-inner-add-write-module t c = search needs
+
+write-inner-sub-write-module : (t : ℕ) → write-inner-lts.Need-sub-write-module (write-inner-calls t) (write-inner-at t) write-inner.Post
+write-inner-sub-write-module t c = search needs
+
+write-inner-part-write-module-start : (t : ℕ) → write-inner-lts.Need-part-write-module-start (write-inner-calls t) (write-inner-at t) write-inner.Post
+write-inner-part-write-module-start t c = search needs
+
+write-inner-part-write-module-end : (t : ℕ) → write-inner-lts.Need-part-write-module-end (write-inner-calls t) (write-inner-at t) write-inner.Post
+write-inner-part-write-module-end t c = search needs
+
+write-inner-mul-write-module : (t : ℕ) → write-inner-lts.Need-mul-write-module (write-inner-calls t) (write-inner-at t) write-inner.Post
+write-inner-mul-write-module t c = search needs
+
+write-inner-sub-write-module-2 : (t : ℕ) → write-inner-lts.Need-sub-write-module-2 (write-inner-calls t) (write-inner-at t) write-inner.Post
+write-inner-sub-write-module-2 t c = search needs
+
+write-inner-part-write-module-start-2 : (t : ℕ) → write-inner-lts.Need-part-write-module-start-2 (write-inner-calls t) (write-inner-at t) write-inner.Post
+write-inner-part-write-module-start-2 t c = search needs
+
+write-inner-part-write-module-end-2 : (t : ℕ) → write-inner-lts.Need-part-write-module-end-2 (write-inner-calls t) (write-inner-at t) write-inner.Post
+write-inner-part-write-module-end-2 t c = search needs
+
+write-inner-write-module-requires : (t : ℕ) → write-inner-lts.Need-write-module-requires (write-inner-calls t) (write-inner-at t) write-inner.Post
+write-inner-write-module-requires t c κs = search needs
+
+write-inner-add-lay-head : (t : ℕ) → write-inner-lts.Need-add-lay-head (write-inner-calls t) (write-inner-at t) write-inner.Post
+write-inner-add-lay-head t c =
+    let args = c .before .before .before .before .before .before .before .before .before .before .before .before .before .before .before .before .before
+    .before .before .args in
+    let pre = c .before .before .before .before .before .before .before .before .before .before .before .before .before .before .before .before .before
+    .before .before .pre in
+    let own-words = c .before .before .before .before .before .before .before .before .own-words in
+    let write-module = c .before .before .before .before .before .write-module in
+    omega (
+      arith,
+      module-bound (args .op) (args .card .now) (args .root .now) ((pre .1 .0) .small) (args .left) (pre .1 .1)
+          (args .chain .now) (args .from + 6) (args .to) ((pre .1 .0) .ordered) ((pre .1 .0) .inside) 65537
+          (table 0 (take (length (args .work .now) - own-words .result) (drop (own-words .result) (args .work .now)))),
+      write-module .ensures .length-is,
+      (pre .1 .0) .inside,
+      (pre .1 .0) .small,
+    )
+
+write-inner-lay-head-requires : (t : ℕ) → write-inner-lts.Need-lay-head-requires (write-inner-calls t) (write-inner-at t) write-inner.Post
+write-inner-lay-head-requires t c κs = search needs
+
+write-inner-add-t31 : (t : ℕ) → write-inner-lts.Need-add-t31 (write-inner-calls t) (write-inner-at t) write-inner.Post
+write-inner-add-t31 t c =
+    let args = c .before .before .before .before .before .before .before .before .before .before .before .before .before .before .before .before .before
+    .before .before .before .before .before .before .before .args in
+    let pre = c .before .before .before .before .before .before .before .before .before .before .before .before .before .before .before .before .before
+    .before .before .before .before .before .before .before .pre in
+    let own-words = c .before .before .before .before .before .before .before .before .before .before .before .before .before .own-words in
+    let write-module = c .before .before .before .before .before .before .before .before .before .before .write-module in
+    omega (
+      arith,
+      module-bound (args .op) (args .card .now) (args .root .now) ((pre .1 .0) .small) (args .left) (pre .1 .1)
+          (args .chain .now) (args .from + 6) (args .to) ((pre .1 .0) .ordered) ((pre .1 .0) .inside) 65537
+          (table 0 (take (length (args .work .now) - own-words .result) (drop (own-words .result) (args .work .now)))),
+      write-module .ensures .length-is,
+      (pre .1 .0) .inside,
+      (pre .1 .0) .small,
+    )
+
+write-inner-same-length : (t : ℕ) → write-inner-lts.Need-same-length (write-inner-calls t) (write-inner-at t) write-inner.Post
+write-inner-same-length t c = search needs
+
+write-inner-same-length-2 : (t : ℕ) → write-inner-lts.Need-same-length-2 (write-inner-calls t) (write-inner-at t) write-inner.Post
+write-inner-same-length-2 t c = search needs
+
+write-inner-returns : (t : ℕ) → write-inner-lts.Need-returns (write-inner-calls t) (write-inner-at t) write-inner.Post
+write-inner-returns t c =
+    let args = c .before .before .before .before .before .before .before .before .before .before .before .before .before .before .before .before .before
+    .before .before .before .before .before .before .before .args in
+    let least = c .before .before .before .before .before .before .before .before .before .before .before .before .before .before .before .before .before
+    .before .least in
+    let has-room-beside = c .before .before .before .before .before .before .before .before .before .before .before .before .before .before .before
+    .before .has-room-beside in
+    let if1 = c .before .before .before .before .before .before .before .before .before .before .before .before .before .before .before .if1 in
+    let own-words = c .before .before .before .before .before .before .before .before .before .before .before .before .before .own-words in
+    let write-module = c .before .before .before .before .before .before .before .before .before .before .write-module in
+    let lay-head = c .before .before .before .lay-head in
+    beside-gives (moduleMade (args .op) (args .card .now) (args .root .now) (args .left) (args .chain .now)) (args .at) (args .from) (args .to) (args .owner)
+    (args .pairs) (args .work .now) _ (has-room-beside .ensures) (args .out .now) _ (least .ensures) (if1 .taken) _ (own-words .ensures) _ _ _ _ _ _ _
+    (write-module .ensures) (lay-head .ensures)
+
+write-inner-add-write-module-2 : (t : ℕ) → write-inner-lts.Need-add-write-module-2 (write-inner-calls t) (write-inner-at t) write-inner.Post
+write-inner-add-write-module-2 t c = search needs
+
+write-inner-sub-write-module-3 : (t : ℕ) → write-inner-lts.Need-sub-write-module-3 (write-inner-calls t) (write-inner-at t) write-inner.Post
+write-inner-sub-write-module-3 t c = search needs
+
+write-inner-part-write-module-start-3 : (t : ℕ) → write-inner-lts.Need-part-write-module-start-3 (write-inner-calls t) (write-inner-at t) write-inner.Post
+write-inner-part-write-module-start-3 t c = search needs
+
+write-inner-part-write-module-end-3 : (t : ℕ) → write-inner-lts.Need-part-write-module-end-3 (write-inner-calls t) (write-inner-at t) write-inner.Post
+write-inner-part-write-module-end-3 t c = search needs
+
+write-inner-write-module-requires-2 : (t : ℕ) → write-inner-lts.Need-write-module-requires-2 (write-inner-calls t) (write-inner-at t) write-inner.Post
+write-inner-write-module-requires-2 t c κs = search needs
+
+write-inner-add-lay-head-2 : (t : ℕ) → write-inner-lts.Need-add-lay-head-2 (write-inner-calls t) (write-inner-at t) write-inner.Post
+write-inner-add-lay-head-2 t c =
+    let args = c .before .before .before .before .before .before .before .before .before .before .before .before .before .before .before .before
+    .before .args in
+    let pre = c .before .before .before .before .before .before .before .before .before .before .before .before .before .before .before .before .before .pre in
+    let write-module2 = c .before .before .before .before .before .write-module2 in
+    omega (
+      arith,
+      module-bound (args .op) (args .card .now) (args .root .now) ((pre .1 .0) .small) (args .left) (pre .1 .1)
+          (args .chain .now) (args .from + 6) (args .to) ((pre .1 .0) .ordered) ((pre .1 .0) .inside) (args .owner) (table (args .pairs) (args .work .now)),
+      write-module2 .ensures .length-is,
+      (pre .1 .0) .inside,
+      (pre .1 .0) .small,
+    )
+
+write-inner-lay-head-requires-2 : (t : ℕ) → write-inner-lts.Need-lay-head-requires-2 (write-inner-calls t) (write-inner-at t) write-inner.Post
+write-inner-lay-head-requires-2 t c κs = search needs
+
+write-inner-add-t38 : (t : ℕ) → write-inner-lts.Need-add-t38 (write-inner-calls t) (write-inner-at t) write-inner.Post
+write-inner-add-t38 t c =
+    let args = c .before .before .before .before .before .before .before .before .before .before .before .before .before .before .before .before .before
+    .before .before .before .before .before .args in
+    let pre = c .before .before .before .before .before .before .before .before .before .before .before .before .before .before .before .before .before
+    .before .before .before .before .before .pre in
+    let write-module2 = c .before .before .before .before .before .before .before .before .before .before .write-module2 in
+    omega (
+      arith,
+      module-bound (args .op) (args .card .now) (args .root .now) ((pre .1 .0) .small) (args .left) (pre .1 .1)
+          (args .chain .now) (args .from + 6) (args .to) ((pre .1 .0) .ordered) ((pre .1 .0) .inside) (args .owner) (table (args .pairs) (args .work .now)),
+      write-module2 .ensures .length-is,
+      (pre .1 .0) .inside,
+      (pre .1 .0) .small,
+    )
+
+write-inner-same-length-3 : (t : ℕ) → write-inner-lts.Need-same-length-3 (write-inner-calls t) (write-inner-at t) write-inner.Post
+write-inner-same-length-3 t c = search needs
+
+write-inner-same-length-4 : (t : ℕ) → write-inner-lts.Need-same-length-4 (write-inner-calls t) (write-inner-at t) write-inner.Post
+write-inner-same-length-4 t c = search needs
+
+write-inner-returns-2 : (t : ℕ) → write-inner-lts.Need-returns-2 (write-inner-calls t) (write-inner-at t) write-inner.Post
+write-inner-returns-2 t c =
+    let args = c .before .before .before .before .before .before .before .before .before .before .before .before .before .before .before .before .before
+    .before .before .before .before .before .args in
+    let least = c .before .before .before .before .before .before .before .before .before .before .before .before .before .before .before .before .least in
+    let has-room-beside = c .before .before .before .before .before .before .before .before .before .before .before .before .before .before .has-room-beside in
+    let if1 = c .before .before .before .before .before .before .before .before .before .before .before .before .before .if1 in
+    let write-module2 = c .before .before .before .before .before .before .before .before .before .before .write-module2 in
+    let lay-head2 = c .before .before .before .lay-head2 in
+    alone-gives (moduleMade (args .op) (args .card .now) (args .root .now) (args .left) (args .chain .now)) (args .at) (args .from) (args .to) (args .owner)
+    (args .pairs) (args .work .now) _ (has-room-beside .ensures) (args .out .now) _ (least .ensures) (if1 .left) _ _ _ _ _ _ _ (write-module2 .ensures) (lay-head2 .ensures)
 
 write-mod-sub-part : (t : ℕ) → write-mod-lts.Need-sub-part (write-mod-calls t) (write-mod-at t) write-mod.Post
 write-mod-sub-part t c =
@@ -1175,18 +1337,21 @@ write-module-returns-4 t c =
     (extended .ensures) _ _ (table-of .ensures .1) (fits-room (table-of .last .1 .1 .1 .1 .1 .1 .0) _ _ (room .ensures) (omega (arith, if3 .left))) _ _ _ _ _ _
     (write-mod .ensures)
 
-pub +write-body+write-declaration+write-declarations+write-mod+write-module-spec :
+pub +write-body+write-declaration+write-declarations+write-inner+write-mod+write-module-spec :
     {M : Type 1} → statement M
-+write-body+write-declaration+write-declarations+write-mod+write-module-spec =
++write-body+write-declaration+write-declarations+write-inner+write-mod+write-module-spec =
     close
     μ-write-body
     μ-write-declaration
     μ-write-declarations
+    μ-write-inner
     μ-write-mod
     μ-write-module
     (λ t. write-body-lts.spec (
       least-reads.Asked,
       least-reads.Learnt,
+      own-words-reads.Asked,
+      own-words-reads.Learnt,
       write-imports-reads.Asked,
       write-imports-reads.Learnt,
       write-declarations-below t,
@@ -1197,6 +1362,9 @@ pub +write-body+write-declaration+write-declarations+write-mod+write-module-spec
     (write-body-at t)
     write-body.Post
     (write-body-least-requires t)
+    (write-body-own-words-requires t)
+    (write-body-slice-reshare-prefix-write-imports t)
+    (write-body-slice-aggregate-write-imports t)
     (write-body-sub-write-imports t)
     (write-body-part-write-imports-start t)
     (write-body-part-write-imports-end t)
@@ -1211,7 +1379,7 @@ pub +write-body+write-declaration+write-declarations+write-mod+write-module-spec
     (write-body-add-n t)
     (write-body-add-lay-head t)
     (write-body-lay-head-requires t)
-    (write-body-add-t23 t)
+    (write-body-add-t26 t)
     (write-body-same-length t)
     (write-body-same-length-2 t)
     (write-body-returns t))
@@ -1220,14 +1388,12 @@ pub +write-body+write-declaration+write-declarations+write-mod+write-module-spec
       part-reads.Learnt,
       record-kind-reads.Asked,
       record-kind-reads.Learnt,
-      least-reads.Asked,
-      least-reads.Learnt,
-      write-module-below t,
-      write-module.Post,
-      lay-head-reads.Asked,
-      lay-head-reads.Learnt,
+      write-inner-below t,
+      write-inner.Post,
       table-of-reads.Asked,
       table-of-reads.Learnt,
+      own-words-reads.Asked,
+      own-words-reads.Learnt,
       replace-reads.Asked,
       replace-reads.Learnt,
     )
@@ -1236,20 +1402,15 @@ pub +write-body+write-declaration+write-declarations+write-mod+write-module-spec
     (write-declaration-sub-part t)
     (write-declaration-part-requires t)
     (write-declaration-record-kind-requires t)
-    (write-declaration-least-requires t)
-    (write-declaration-add-write-module t)
-    (write-declaration-sub-write-module t)
-    (write-declaration-sub-write-module-2 t)
-    (write-declaration-part-write-module-start t)
-    (write-declaration-part-write-module-end t)
-    (write-declaration-write-module-requires t)
-    (write-declaration-add-lay-head t)
-    (write-declaration-lay-head-requires t)
-    (write-declaration-add-t23 t)
+    (write-declaration-sub-write-inner t)
+    (write-declaration-write-inner-requires t)
     (write-declaration-same-length t)
     (write-declaration-same-length-2 t)
     (write-declaration-returns t)
     (write-declaration-table-of-requires t)
+    (write-declaration-own-words-requires t)
+    (write-declaration-slice-reshare-prefix-replace t)
+    (write-declaration-slice-aggregate-replace t)
     (write-declaration-replace-requires t)
     (write-declaration-same-length-3 t)
     (write-declaration-same-length-4 t)
@@ -1294,6 +1455,50 @@ pub +write-body+write-declaration+write-declarations+write-mod+write-module-spec
     (write-declarations-same-length-3 t)
     (write-declarations-same-length-4 t)
     (write-declarations-returns-2 t))
+    (λ t. write-inner-lts.spec (
+      least-reads.Asked,
+      least-reads.Learnt,
+      has-room-beside-reads.Asked,
+      has-room-beside-reads.Learnt,
+      own-words-reads.Asked,
+      own-words-reads.Learnt,
+      write-module-below t,
+      write-module.Post,
+      lay-head-reads.Asked,
+      lay-head-reads.Learnt,
+    )
+    (write-inner-at t)
+    write-inner.Post
+    (write-inner-least-requires t)
+    (write-inner-sub-has-room-beside t)
+    (write-inner-has-room-beside-requires t)
+    (write-inner-own-words-requires t)
+    (write-inner-add-write-module t)
+    (write-inner-sub-write-module t)
+    (write-inner-part-write-module-start t)
+    (write-inner-part-write-module-end t)
+    (write-inner-mul-write-module t)
+    (write-inner-sub-write-module-2 t)
+    (write-inner-part-write-module-start-2 t)
+    (write-inner-part-write-module-end-2 t)
+    (write-inner-write-module-requires t)
+    (write-inner-add-lay-head t)
+    (write-inner-lay-head-requires t)
+    (write-inner-add-t31 t)
+    (write-inner-same-length t)
+    (write-inner-same-length-2 t)
+    (write-inner-returns t)
+    (write-inner-add-write-module-2 t)
+    (write-inner-sub-write-module-3 t)
+    (write-inner-part-write-module-start-3 t)
+    (write-inner-part-write-module-end-3 t)
+    (write-inner-write-module-requires-2 t)
+    (write-inner-add-lay-head-2 t)
+    (write-inner-lay-head-requires-2 t)
+    (write-inner-add-t38 t)
+    (write-inner-same-length-3 t)
+    (write-inner-same-length-4 t)
+    (write-inner-returns-2 t))
     (λ t. write-mod-lts.spec (
       part-reads.Asked,
       part-reads.Learnt,

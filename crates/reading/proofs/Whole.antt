@@ -8,19 +8,21 @@ use native.Mathlib.Decide.{decLt}
 use lib.ListN.{length, take, drop, length-take, length-drop}
 use lib.Dec.{ltb}
 use borrow.Author.Tests.{lt-ltb}
-use Rattle.answers.specs.declared.Answer.the-variants.{ShortRecord, WrongKind, TooDeep, LeftOver}
+use Rattle.answers.specs.declared.Answer.{Answer}
+use Rattle.answers.specs.declared.Answer.the-variants.{BadRoot, ShortRecord, WrongKind, TooDeep, LeftOver}
 use Rattle.answers.specs.declared.Verdict.{Verdict}
-use Rattle.answers.specs.declared.Verdict.the-variants.{Refused}
+use Rattle.answers.specs.declared.Verdict.the-variants.{Sound, Refused}
 use Rattle.wire.specs.Numbers.{Bytes, num, between}
 use Rattle.wire.proofs.Slices.{tail-is}
 use Rattle.wire.proofs.Within.{Within, within-all, within-drop, within-front}
 use Rattle.records.specs.Record.{lengthOf, kindOf, contentOf, restOf}
-use Rattle.records.specs.Kinds.{Place, stands, these, contentAt}
+use Rattle.records.specs.Kinds.{Place, stands, these, contentAt, mod′, path}
 use Rattle.records.specs.Reading.{short, andThen, reading}
 use Rattle.records.proofs.Tree.{enough-long}
 use Rattle.rast.proofs.Tests.{by-test}
 use Rattle.rows.specs.Codes.{placeOf}
-use Rattle.reading.specs.Reads.{reads, readsRecord}
+use Rattle.rows.proofs.Codes.{place-mod, place-path}
+use Rattle.reading.specs.Reads.{reads, readsRecord, rootThen}
 use Rattle.reading.specs.Codes.{rowContent}
 use Rattle.reading.proofs.Laws.{reads-record, reads-leftOver, next-left, reading-is}
 use Rattle.reading.proofs.Rows.{content-of-one}
@@ -93,3 +95,19 @@ row-all limit p s m n h e = rw (content-of-one p n h, e) (whole-all limit (place
 pub row-cut : (limit p : ℕ) (s : Bytes) (m : ℕ) → 0 < p → p < 32 → m ≡ 5 + lengthOf s → m < length s
     → reads limit (rowContent p) 0 (between s 0 m) ≡ reading limit (placeOf p) s
 row-cut limit p s m n h e l = rw (content-of-one p n h) (whole-cut limit (placeOf p) s m e l)
+
+-- a card's and a root's places
+pub read-card-is : (v : Verdict) (card : Bytes) → v ≡ reading 48 (placeOf 7) card → v ≡ reading 48 mod′ card
+read-card-is v card e = e ∙ ap (λ (p : Place). reading 48 p card) place-mod
+
+pub read-root-is : (v : Verdict) (root : Bytes) → v ≡ reading 8 (placeOf 4) root → v ≡ reading 8 path root
+read-root-is v root e = e ∙ ap (λ (p : Place). reading 8 p root) place-path
+
+-- a root that is sound, and one that is not
+pub both-card : (v x : Verdict) (root card : Bytes) → v ≡ reading 8 (placeOf 4) root → v ≡ Sound → x ≡ reading 48 (placeOf 7) card
+    → x ≡ rootThen (reading 8 path root) (reading 48 mod′ card)
+both-card v x root card r y e = rw (sym (read-root-is v root r) ∙ y) (read-card-is x card e)
+
+pub both-root : (v : Verdict) (a : Answer) (root card : Bytes) → v ≡ reading 8 (placeOf 4) root → v ≡ Refused a
+    → Refused BadRoot ≡ rootThen (reading 8 path root) (reading 48 mod′ card)
+both-root v a root card r y = rw (sym (read-root-is v root r) ∙ y)

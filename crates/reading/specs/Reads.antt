@@ -4,9 +4,9 @@ use mathlib.Core.Bool.{not, cond}
 use mathlib.Core.Option.{Option, none, some}
 use Prim.Native.Nat.{ℕ, zero, suc, _+_}
 use lib.ListN.{length, drop}
-use Rattle.answers.specs.declared.Answer.the-variants.{ShortRecord, WrongKind, TooDeep}
+use Rattle.answers.specs.declared.Answer.the-variants.{BadRoot, ShortRecord, WrongKind, TooDeep}
 use Rattle.answers.specs.declared.Verdict.{Verdict}
-use Rattle.answers.specs.declared.Verdict.the-variants.{Refused}
+use Rattle.answers.specs.declared.Verdict.the-variants.{Sound, Refused}
 use Rattle.wire.specs.Numbers.{Bytes}
 use Rattle.records.specs.Record.{kindOf, contentOf}
 use Rattle.records.specs.Kinds.{Place, stands, Content, bytes, these, any, atMostOne, contentAt}
@@ -44,3 +44,8 @@ placeIn (these ps) j = firstOf (drop j ps)
 placeIn (any p) j = some p
 placeIn (atMostOne p) zero = some p
 placeIn (atMostOne p) (suc j) = none
+
+-- a root's verdict, and then what is said of the card: 3 where the root is none
+abbrev pub rootThen : Verdict → Verdict → Verdict
+rootThen Sound v = v
+rootThen (Refused a) v = Refused BadRoot

@@ -8,7 +8,7 @@ ghost use Rattle.wire.specs.Numbers.{between};
 ghost use Rattle.records.specs.Kinds.{mod′, path};
 ghost use Rattle.records.specs.Reading.{reading};
 ghost use Rattle.rows.specs.Codes.{placeOf, table};
-ghost use Rattle.reading.specs.Reads.{reads};
+ghost use Rattle.reading.specs.Reads.{reads, rootThen};
 ghost use Rattle.reading.specs.Codes.{rowContent, rowAfter, rowEnds, rowIn, Good, said, Valid};
 
 // What a record holds is a row: a byte for the place of each field, the first the lowest; or this and the number of a place, for any number
@@ -133,29 +133,42 @@ fn verdict(v: usize) -> Verdict
 }
 
 // Exactly one record at place p, at most limit deep. Of what follows it one byte is looked at.
-fn read_one(s: &[u8], p: u64, limit: usize) -> Verdict
-    requires { ⌜ (0 < p) × (p < 32) ⌝ }
+fn read_one(s: &[u8], p: u64, limit: usize, t: &[u64]) -> Verdict
+    requires { ⌜ (0 < p) × (p < 32) × (now t ≡ table) ⌝ }
     ensures { λ r. ⌜ r ≡ reading limit (placeOf p) (now (s .entry)) ⌝ }
 {
-    let t = rows::table();
     let e = 5 + reader::record_length(s);
     let mut to = s.len();
     if e < to {
         to = e;
     }
-    verdict(read_content(s, 0, to, p, limit, &t))
+    verdict(read_content(s, 0, to, p, limit, t))
 }
 
 // A card: one Mod or ExternMod, at most 48 deep.
 pub fn read_card(card: &[u8]) -> Verdict
     ensures { λ r. ⌜ r ≡ reading 48 mod′ (now (card .entry)) ⌝ }
 {
-    read_one(card, 7, 48)
+    let t = rows::table();
+    read_one(card, 7, 48, &t)
 }
 
 // A root: one Path, at most 8 deep.
 pub fn read_root(root: &[u8]) -> Verdict
     ensures { λ r. ⌜ r ≡ reading 8 path (now (root .entry)) ⌝ }
 {
-    read_one(root, 4, 8)
+    let t = rows::table();
+    read_one(root, 4, 8, &t)
+}
+
+// A root and then a card, by one table of rows.
+pub fn read_both(root: &[u8], card: &[u8]) -> Verdict
+    ensures { λ r. ⌜ r ≡ rootThen (reading 8 path (now (root .entry))) (reading 48 mod′ (now (card .entry))) ⌝ }
+{
+    let t = rows::table();
+    let v = read_one(root, 4, 8, &t);
+    match v {
+        Verdict::Sound => read_one(card, 7, 48, &t),
+        Verdict::Refused(_) => Verdict::Refused(Answer::BadRoot),
+    }
 }

@@ -8,27 +8,21 @@ use borrow.Author.Needs.{needs}
 use Rattle.reading.proofs.read_one.Statement.{statement}
 use Rattle.reading.proofs.read_one.Tie as tie
 
-table-requires : tie.Need-table-requires
-table-requires c κs = search needs
-
 record-length-requires : tie.Need-record-length-requires
 record-length-requires c κs = search needs
 
 add-e : tie.Need-add-e
 add-e c = search needs
 
-slice-aggregate-read-content : tie.Need-slice-aggregate-read-content
-slice-aggregate-read-content c = search needs
-
 read-content-requires : tie.Need-read-content-requires
 read-content-requires c κs =
-    let start = c .before .before .before .before .before in
-    let small = c .before .before .record-length .ensures .1 in (
+    let start = c .before .before .before .before in
+    let small = c .before .record-length .ensures .1 in (
       good-one _ (start .pre .1),
       omega arith,
-      ⊎-elim (λ w. omega arith) (λ w. omega arith) (c .before .if1 .came),
-      ⊎-elim (λ w. omega arith) (λ w. omega arith) (c .before .if1 .came),
-      c .before .before .before .table .ensures,
+      ⊎-elim (λ w. omega arith) (λ w. omega arith) (c .if1 .came),
+      ⊎-elim (λ w. omega arith) (λ w. omega arith) (c .if1 .came),
+      start .pre .2,
     )
 
 verdict-requires : tie.Need-verdict-requires
@@ -36,7 +30,7 @@ verdict-requires c κs = search needs
 
 returns : tie.Need-returns
 returns c =
-    let joined = c .before .before .before in
+    let joined = c .before .before in
     let start = joined .before .before .before .before in
     let s = start .args .s .now in
     let n = joined .before .record-length .ensures .0 in
@@ -48,11 +42,4 @@ returns c =
 pub read-one-spec : {M : Type 1} → statement M
 read-one-spec =
     tie.close
-    (tie.spec
-    table-requires
-    record-length-requires
-    add-e
-    slice-aggregate-read-content
-    read-content-requires
-    verdict-requires
-    returns)
+    (tie.spec record-length-requires add-e read-content-requires verdict-requires returns)

@@ -91,27 +91,21 @@ passed t c =
     (short .before .is-short .ensures) (short .if2 .left) (stand .before .record-kind .ensures .0) (stand .may-stand .ensures)
     (c .before .before .before .if3 .left) (c .before .before .if4 .left) (c .before .record-length .ensures .0) (c .row-after .ensures)
 
--- src/lib.rt:61:5
 loop-holds : (t : ℕ) → lts.Need-loop-holds (calls t) (at-depth t) read-content.Post Inv-loop μ-loop
 loop-holds t c = turn-start _ _ _ _ _ (c .before .before .pre .1 .0) (c .before .before .pre .1 .1)
 
--- src/lib.rt:64:20
 mul-result : (t : ℕ) → lts.Need-mul-result (calls t) (at-depth t) read-content.Post Inv-loop μ-loop
 mul-result t c =
     let turn = c .before in
-    let loop = turn .before in
-    let start = loop .before .before .before in
+    let start = turn .before .before .before .before in
     omega (arith, start .pre .1 .3, turn .loop-test .taken)
 
--- src/lib.rt:64:20
 add-result : (t : ℕ) → lts.Need-add-result (calls t) (at-depth t) read-content.Post Inv-loop μ-loop
 add-result t c =
     let turn = c .before in
-    let loop = turn .before in
-    let start = loop .before .before .before in
+    let start = turn .before .before .before .before in
     omega (arith, start .pre .1 .3, turn .loop-test .taken)
 
--- src/lib.rt:64:13
 returns : (t : ℕ) → lts.Need-returns (calls t) (at-depth t) read-content.Post Inv-loop μ-loop
 returns t c =
     let turn = c .before in
@@ -119,39 +113,30 @@ returns t c =
     let start = loop .before .before .before in
     turn-left (loop .loop .inv) (turn .loop-test .taken) (start .pre .1 .2) (c .if1 .taken)
 
--- src/lib.rt:66:17
 sub-s : (t : ℕ) → lts.Need-sub-s (calls t) (at-depth t) read-content.Post Inv-loop μ-loop
 sub-s t c = search needs
 
--- src/lib.rt:66:17
 part-s-start : (t : ℕ) → lts.Need-part-s-start (calls t) (at-depth t) read-content.Post Inv-loop μ-loop
 part-s-start t c = search needs
 
--- src/lib.rt:66:17
 part-s-end : (t : ℕ) → lts.Need-part-s-end (calls t) (at-depth t) read-content.Post Inv-loop μ-loop
 part-s-end t c = c .before .before .before .before .before .pre .1 .2
 
--- src/lib.rt:67:12
 is-short-requires : (t : ℕ) → lts.Need-is-short-requires (calls t) (at-depth t) read-content.Post Inv-loop μ-loop
 is-short-requires t c κs = search needs
 
--- src/lib.rt:68:20
 mul-result-2 : (t : ℕ) → lts.Need-mul-result-2 (calls t) (at-depth t) read-content.Post Inv-loop μ-loop
 mul-result-2 t c =
     let turn = c .before .before .before .before in
-    let loop = turn .before in
-    let start = loop .before .before .before in
+    let start = turn .before .before .before .before in
     omega (arith, start .pre .1 .3, turn .loop-test .taken)
 
--- src/lib.rt:68:20
 add-result-2 : (t : ℕ) → lts.Need-add-result-2 (calls t) (at-depth t) read-content.Post Inv-loop μ-loop
 add-result-2 t c =
     let turn = c .before .before .before .before in
-    let loop = turn .before in
-    let start = loop .before .before .before in
+    let start = turn .before .before .before .before in
     omega (arith, start .pre .1 .3, turn .loop-test .taken)
 
--- src/lib.rt:68:13
 returns-2 : (t : ℕ) → lts.Need-returns-2 (calls t) (at-depth t) read-content.Post Inv-loop μ-loop
 returns-2 t c =
     let turn = c .before .before .before .before in
@@ -160,31 +145,24 @@ returns-2 t c =
     turn-short (loop .loop .inv) (turn .loop-test .taken) (start .pre .1 .2)
     (c .before .before .before .if1 .left) (c .before .is-short .ensures) (c .if2 .taken)
 
--- src/lib.rt:70:13
 record-kind-requires : (t : ℕ) → lts.Need-record-kind-requires (calls t) (at-depth t) read-content.Post Inv-loop μ-loop
 record-kind-requires t c κs = search needs
 
--- src/lib.rt:71:13
 may-stand-requires : (t : ℕ) → lts.Need-may-stand-requires (calls t) (at-depth t) read-content.Post Inv-loop μ-loop
 may-stand-requires t c κs = search needs
 
--- src/lib.rt:72:20
 mul-result-3 : (t : ℕ) → lts.Need-mul-result-3 (calls t) (at-depth t) read-content.Post Inv-loop μ-loop
 mul-result-3 t c =
     let turn = c .before .before .before .before .before .before .before in
-    let loop = turn .before in
-    let start = loop .before .before .before in
+    let start = turn .before .before .before .before in
     omega (arith, start .pre .1 .3, turn .loop-test .taken)
 
--- src/lib.rt:72:20
 add-result-3 : (t : ℕ) → lts.Need-add-result-3 (calls t) (at-depth t) read-content.Post Inv-loop μ-loop
 add-result-3 t c =
     let turn = c .before .before .before .before .before .before .before in
-    let loop = turn .before in
-    let start = loop .before .before .before in
+    let start = turn .before .before .before .before in
     omega (arith, start .pre .1 .3, turn .loop-test .taken)
 
--- src/lib.rt:72:13
 returns-3 : (t : ℕ) → lts.Need-returns-3 (calls t) (at-depth t) read-content.Post Inv-loop μ-loop
 returns-3 t c =
     let turn = c .before .before .before .before .before .before .before in
@@ -194,23 +172,18 @@ returns-3 t c =
     turn-wrong (loop .loop .inv) (turn .loop-test .taken) (start .pre .1 .2) (said .before .before .before .if1 .left)
     (said .before .is-short .ensures) (said .if2 .left) (c .before .before .record-kind .ensures .0) (c .before .may-stand .ensures) (c .if3 .taken)
 
--- src/lib.rt:75:20
 mul-result-4 : (t : ℕ) → lts.Need-mul-result-4 (calls t) (at-depth t) read-content.Post Inv-loop μ-loop
 mul-result-4 t c =
     let turn = c .before .before .before .before .before .before .before .before in
-    let loop = turn .before in
-    let start = loop .before .before .before in
+    let start = turn .before .before .before .before in
     omega (arith, start .pre .1 .3, turn .loop-test .taken)
 
--- src/lib.rt:75:20
 add-result-4 : (t : ℕ) → lts.Need-add-result-4 (calls t) (at-depth t) read-content.Post Inv-loop μ-loop
 add-result-4 t c =
     let turn = c .before .before .before .before .before .before .before .before in
-    let loop = turn .before in
-    let start = loop .before .before .before in
+    let start = turn .before .before .before .before in
     omega (arith, start .pre .1 .3, turn .loop-test .taken)
 
--- src/lib.rt:75:13
 returns-4 : (t : ℕ) → lts.Need-returns-4 (calls t) (at-depth t) read-content.Post Inv-loop μ-loop
 returns-4 t c =
     let turn = c .before .before .before .before .before .before .before .before in
@@ -221,73 +194,55 @@ returns-4 t c =
     (said .before .is-short .ensures) (said .if2 .left)
     (c .before .before .before .record-kind .ensures .0) (c .before .before .may-stand .ensures) (c .before .if3 .left) (c .if4 .taken)
 
--- src/lib.rt:77:17
 add-e : (t : ℕ) → lts.Need-add-e (calls t) (at-depth t) read-content.Post Inv-loop μ-loop
 add-e t c =
     let turn = c .before .before .before .before .before .before .before .before in
-    let loop = turn .before in
-    let start = loop .before .before .before in
+    let start = turn .before .before .before .before in
     omega (arith, start .pre .1 .3, turn .loop-test .taken)
 
--- src/lib.rt:77:25
 record-length-requires : (t : ℕ) → lts.Need-record-length-requires (calls t) (at-depth t) read-content.Post Inv-loop μ-loop
 record-length-requires t c κs = search needs
 
--- src/lib.rt:77:17
 add-e-2 : (t : ℕ) → lts.Need-add-e-2 (calls t) (at-depth t) read-content.Post Inv-loop μ-loop
 add-e-2 t c =
     let turn = c .before .before .before .before .before .before .before .before .before in
-    let loop = turn .before in
-    let start = loop .before .before .before in
+    let start = turn .before .before .before .before in
     omega (arith, start .pre .1 .3, turn .loop-test .taken, c .record-length .ensures .1)
 
--- src/lib.rt:78:13
 row-after-requires : (t : ℕ) → lts.Need-row-after-requires (calls t) (at-depth t) read-content.Post Inv-loop μ-loop
 row-after-requires t c κs = search needs
 
--- src/lib.rt:61:5
 loop-less : (t : ℕ) → lts.Need-loop-less (calls t) (at-depth t) read-content.Post Inv-loop μ-loop
 loop-less t c =
     let row = c .before in
     omega (arith, (passed t row) .after-head, (passed t row) .inside)
 
--- src/lib.rt:61:5
 loop-again : (t : ℕ) → lts.Need-loop-again (calls t) (at-depth t) read-content.Post Inv-loop μ-loop
 loop-again t c =
     let row = c .before in
     turn-leaf (passed t row) (c .if5 .taken)
 
--- src/lib.rt:84:17
 add-if6 : (t : ℕ) → lts.Need-add-if6 (calls t) (at-depth t) read-content.Post Inv-loop μ-loop
 add-if6 t c =
-    let turn = c .before .before .before .before .before .before .before .before .before .before .before in
-    let loop = turn .before in
-    let start = loop .before .before .before in
-    omega (arith, start .pre .1 .3, turn .loop-test .taken)
+    let row = c .before in
+    omega (arith, start-of t row .pre .1 .3, turn-of t row .loop-test .taken)
 
--- src/lib.rt:85:25
 row-at-requires : (t : ℕ) → lts.Need-row-at-requires (calls t) (at-depth t) read-content.Post Inv-loop μ-loop
 row-at-requires t c κs = search needs
 
--- src/lib.rt:85:17
 may-end-requires : (t : ℕ) → lts.Need-may-end-requires (calls t) (at-depth t) read-content.Post Inv-loop μ-loop
 may-end-requires t c κs = search needs
 
--- src/lib.rt:86:24
 mul-result-5 : (t : ℕ) → lts.Need-mul-result-5 (calls t) (at-depth t) read-content.Post Inv-loop μ-loop
 mul-result-5 t c =
     let row = c .before .before .before .before .before in
-    let start = start-of t row in
-    omega (arith, (passed t row) .inside, start .pre .1 .3)
+    omega (arith, (passed t row) .inside, start-of t row .pre .1 .3)
 
--- src/lib.rt:86:24
 add-result-5 : (t : ℕ) → lts.Need-add-result-5 (calls t) (at-depth t) read-content.Post Inv-loop μ-loop
 add-result-5 t c =
     let row = c .before .before .before .before .before in
-    let start = start-of t row in
-    omega (arith, (passed t row) .inside, start .pre .1 .3)
+    omega (arith, (passed t row) .inside, start-of t row .pre .1 .3)
 
--- src/lib.rt:86:17
 returns-5 : (t : ℕ) → lts.Need-returns-5 (calls t) (at-depth t) read-content.Post Inv-loop μ-loop
 returns-5 t c =
     let row = c .before .before .before .before .before in
@@ -295,13 +250,11 @@ returns-5 t c =
     turn-hollow (passed t row) (c .before .before .before .before .if5 .left) (c .before .before .before .if6 .taken)
     (row-read (start .args .t .now) _ _ (start .pre .1 .4) (c .before .before .row-at .ensures)) (c .before .may-end .ensures) (c .if7 .taken)
 
--- src/lib.rt:61:5
 loop-less-2 : (t : ℕ) → lts.Need-loop-less-2 (calls t) (at-depth t) read-content.Post Inv-loop μ-loop
 loop-less-2 t c =
     let row = c .before .before .before .before .before in
     omega (arith, (passed t row) .after-head, (passed t row) .inside)
 
--- src/lib.rt:61:5
 loop-again-2 : (t : ℕ) → lts.Need-loop-again-2 (calls t) (at-depth t) read-content.Post Inv-loop μ-loop
 loop-again-2 t c =
     let row = c .before .before .before .before .before in
@@ -309,39 +262,28 @@ loop-again-2 t c =
     turn-empty (passed t row) (c .before .before .before .before .if5 .left) (c .before .before .before .if6 .taken)
     (row-read (start .args .t .now) _ _ (start .pre .1 .4) (c .before .before .row-at .ensures)) (c .before .may-end .ensures) (c .if7 .left)
 
--- src/lib.rt:92:13
 row-in-requires : (t : ℕ) → lts.Need-row-in-requires (calls t) (at-depth t) read-content.Post Inv-loop μ-loop
 row-in-requires t c κs =
-    let turn = c .before .before .before .before .before .before .before .before .before .before .before .before in
-    let loop = turn .before in
-    let start = loop .before .before .before in
-    let valid = good-valid _ (loop .loop .inv .good) in
-    (valid .small, start .pre .1 .4)
+    let row = c .before .before in
+    let valid = good-valid _ (turn-of t row .before .loop .inv .good) in
+    (valid .small, start-of t row .pre .1 .4)
 
--- src/lib.rt:94:16
 may-end-requires-2 : (t : ℕ) → lts.Need-may-end-requires-2 (calls t) (at-depth t) read-content.Post Inv-loop μ-loop
 may-end-requires-2 t c κs = search needs
 
--- src/lib.rt:95:17
 add-i : (t : ℕ) → lts.Need-add-i (calls t) (at-depth t) read-content.Post Inv-loop μ-loop
 add-i t c =
-    let turn = c .before .before .before .before .before .before .before .before .before .before .before .before .before .before .before .before in
-    let loop = turn .before in
-    let start = loop .before .before .before in
-    omega (arith, start .pre .1 .3, turn .loop-test .taken)
+    let row = c .before .before .before .before .before .before in
+    omega (arith, start-of t row .pre .1 .3, turn-of t row .loop-test .taken)
 
--- src/lib.rt:97:17
 sub-left : (t : ℕ) → lts.Need-sub-left (calls t) (at-depth t) read-content.Post Inv-loop μ-loop
-sub-left t c =
-    search needs
+sub-left t c = search needs
 
--- src/lib.rt:61:5
 loop-less-3 : (t : ℕ) → lts.Need-loop-less-3 (calls t) (at-depth t) read-content.Post Inv-loop μ-loop
 loop-less-3 t c =
     let row = c .before .before .before .before .before .before in
     omega (arith, (passed t row) .after-head, (passed t row) .inside)
 
--- src/lib.rt:61:5
 loop-again-3 : (t : ℕ) → lts.Need-loop-again-3 (calls t) (at-depth t) read-content.Post Inv-loop μ-loop
 loop-again-3 t c =
     let row = c .before .before .before .before .before .before in
@@ -349,20 +291,14 @@ loop-again-3 t c =
     turn-last (passed t row) (held .before .before .if5 .left) (held .before .if6 .left) (held .row-in .ensures)
     (c .before .before .if8 .taken) (c .before .may-end2 .ensures) (c .if9 .taken)
 
--- src/lib.rt:101:36
 add-read-content : (t : ℕ) → lts.Need-add-read-content (calls t) (at-depth t) read-content.Post Inv-loop μ-loop
 add-read-content t c =
-    let turn = c .before .before .before .before .before .before .before .before .before .before .before .before .before .before in
-    let loop = turn .before in
-    let start = loop .before .before .before in
-    omega (arith, start .pre .1 .3, turn .loop-test .taken)
+    let row = c .before .before .before .before in
+    omega (arith, start-of t row .pre .1 .3, turn-of t row .loop-test .taken)
 
--- src/lib.rt:101:53
 sub-read-content : (t : ℕ) → lts.Need-sub-read-content (calls t) (at-depth t) read-content.Post Inv-loop μ-loop
-sub-read-content t c =
-    search needs
+sub-read-content t c = search needs
 
--- src/lib.rt:101:13
 read-content-requires : (t : ℕ) → lts.Need-read-content-requires (calls t) (at-depth t) read-content.Post Inv-loop μ-loop
 read-content-requires t c κs =
     let row = c .before .before .before .before in
@@ -380,7 +316,6 @@ read-content-requires t c κs =
       ),
     )
 
--- src/lib.rt:103:13
 returns-6 : (t : ℕ) → lts.Need-returns-6 (calls t) (at-depth t) read-content.Post Inv-loop μ-loop
 returns-6 t c =
     let row = c .before .before .before .before .before .before in
@@ -388,13 +323,11 @@ returns-6 t c =
     turn-fault (passed t row) (held .before .before .if5 .left) (held .before .if6 .left) (held .row-in .ensures)
     (c .before .read-content .ensures) (c .if10 .taken)
 
--- src/lib.rt:61:5
 loop-less-4 : (t : ℕ) → lts.Need-loop-less-4 (calls t) (at-depth t) read-content.Post Inv-loop μ-loop
 loop-less-4 t c =
     let row = c .before .before .before .before .before .before in
     omega (arith, (passed t row) .after-head, (passed t row) .inside)
 
--- src/lib.rt:61:5
 loop-again-4 : (t : ℕ) → lts.Need-loop-again-4 (calls t) (at-depth t) read-content.Post Inv-loop μ-loop
 loop-again-4 t c =
     let row = c .before .before .before .before .before .before in
@@ -402,31 +335,26 @@ loop-again-4 t c =
     turn-inner (passed t row) (held .before .before .if5 .left) (held .before .if6 .left) (held .row-in .ensures)
     (c .before .read-content .ensures) (c .if10 .left)
 
--- src/lib.rt:108:8
 may-end-requires-3 : (t : ℕ) → lts.Need-may-end-requires-3 (calls t) (at-depth t) read-content.Post Inv-loop μ-loop
 may-end-requires-3 t c κs = search needs
 
--- src/lib.rt:109:9
 returns-7 : (t : ℕ) → lts.Need-returns-7 (calls t) (at-depth t) read-content.Post Inv-loop μ-loop
 returns-7 t c =
     let loop = c .before .before .before in
     turn-end (loop .loop .inv) (c .before .before .loop-test .left) (c .before .may-end3 .ensures) (c .if11 .taken)
 
--- src/lib.rt:111:5
 mul-result-6 : (t : ℕ) → lts.Need-mul-result-6 (calls t) (at-depth t) read-content.Post Inv-loop μ-loop
 mul-result-6 t c =
     let loop = c .before .before .before in
     let start = loop .before .before .before in
     omega (arith, loop .loop .inv .inside, start .pre .1 .3)
 
--- src/lib.rt:111:5
 add-result-6 : (t : ℕ) → lts.Need-add-result-6 (calls t) (at-depth t) read-content.Post Inv-loop μ-loop
 add-result-6 t c =
     let loop = c .before .before .before in
     let start = loop .before .before .before in
     omega (arith, loop .loop .inv .inside, start .pre .1 .3)
 
--- src/lib.rt:54:1
 returns-8 : (t : ℕ) → lts.Need-returns-8 (calls t) (at-depth t) read-content.Post Inv-loop μ-loop
 returns-8 t c =
     let loop = c .before .before .before in

@@ -1,6 +1,6 @@
 -- The loop over a row's records, turn by turn, as the code has it in hand: what is left to read gives the answer. Assumes nothing.
 use mathlib.Core.Path.{_≡_, refl, ap, ap₂, sym, _∙_}
-use mathlib.Core.List.{[], map}
+use mathlib.Core.List.{map}
 use mathlib.Core.Bool.{Bool, true, false, not, cond}
 use Prim.Native.Nat.{ℕ, zero, suc, _+_, _-_, _*_, _/_, _%_, _<_, _≤_}
 use native.Mathlib.Omega.{arith}

@@ -9,7 +9,7 @@ ghost use Rattle.records.specs.Kinds.{mod′, path};
 ghost use Rattle.records.specs.Reading.{reading};
 ghost use Rattle.rows.specs.Codes.{placeOf, table};
 ghost use Rattle.reading.specs.Reads.{reads, rootThen};
-ghost use Rattle.reading.specs.Codes.{rowContent, rowAfter, rowEnds, rowIn, Good, said, Valid};
+ghost use Rattle.reading.specs.Codes.{rowContent, rowAfter, rowEnds, rowIn, Good, said};
 
 // What a record holds is a row: a byte for the place of each field, the first the lowest; or this and the number of a place, for any number
 // of records there. Here and below, t is the table of rows.

@@ -3,21 +3,7 @@ use answers::Answer;
 use answers::Verdict;
 ghost use mathlib.Core.Path.{_≡_};
 ghost use Rattle.rast.specs.Operation.{upstream};
-ghost use Rattle.outcome.specs.Outcome.{goodRoot, admitted};
-
-// A root of at most 256 bytes that reads as a Path.
-fn good_root(root: &[u8]) -> bool
-    ensures { λ r. ⌜ r ≡ goodRoot upstream (now (root .entry)) ⌝ }
-{
-    if 256 < root.len() {
-        return false;
-    }
-    let v = reading::read_root(root);
-    match v {
-        Verdict::Sound => true,
-        Verdict::Refused(_) => false,
-    }
-}
+ghost use Rattle.outcome.specs.Outcome.{admitted};
 
 // Of a card, a root and as many work words as this.
 pub fn admit(card: &[u8], root: &[u8], words: usize) -> Verdict
@@ -29,8 +15,8 @@ pub fn admit(card: &[u8], root: &[u8], words: usize) -> Verdict
     if 32768 < card.len() {
         return Verdict::Refused(Answer::LongCard);
     }
-    if !good_root(root) {
+    if 256 < root.len() {
         return Verdict::Refused(Answer::BadRoot);
     }
-    reading::read_card(card)
+    reading::read_both(root, card)
 }

@@ -2,16 +2,39 @@
 -- In each, n is the length that was read. Assumes nothing.
 use mathlib.Core.Path.{_≡_, ap, sym, _∙_}
 use mathlib.Core.Bool.{true}
-use Prim.Native.Nat.{ℕ, _+_, _-_, _<_, _≤_}
+use Prim.Native.Nat.{ℕ, _+_, _-_, _*_, _^_, _<_, _≤_}
 use native.Mathlib.Omega.{arith}
-use lib.ListN.{length, take, drop, length-drop, drop-of-length-le}
+use lib.ListN.{length, take, drop, getD, length-drop, drop-of-length-le}
 use lib.Seq.{take-nil, take-all}
 use lib.Dec.{ltb}
 use borrow.Author.Tests.{lt-ltb, le-ltb}
-use Rattle.wire.specs.Numbers.{Bytes}
+use Rattle.wire.specs.Numbers.{Bytes, num}
+use Rattle.wire.proofs.Numbers.{num-front}
 use Rattle.wire.proofs.Slices.{end-is, tail-part}
-use Rattle.records.specs.Record.{lengthOf, contentOf, restOf}
+use Rattle.records.specs.Record.{lengthOf, kindOf, contentOf, restOf}
 use Rattle.records.specs.Reading.{short}
+
+-- a byte of s as it was read
+abbrev Byte : Bytes → ℕ → ℕ → Type 0
+Byte s i b = (b ≡ getD s i 0) × (b < 256)
+
+-- the length and the kind in bytes that are there
+pub length-is : (s : Bytes) (a b c d : ℕ) → 4 ≤ length s → Byte s 0 a → Byte s 1 b → Byte s 2 c → Byte s 3 d
+    → (a + 256 * b + 65536 * c + 16777216 * d ≡ lengthOf s) × (a + 256 * b + 65536 * c + 16777216 * d < 2 ^ 32)
+unfolding num
+length-is s a b c d h p q r t =
+    let w = num-front s 0 3 (omega arith) in
+    let x = num-front s 1 2 (omega arith) in
+    let y = num-front s 2 1 (omega arith) in
+    let z = num-front s 3 0 (omega arith) in
+    (omega arith, omega arith)
+
+pub kind-is : (s : Bytes) (a b : ℕ) → 6 ≤ length s → Byte s 4 a → Byte s 5 b → (a + 256 * b ≡ kindOf s) × (a + 256 * b < 65536)
+unfolding num
+kind-is s a b h p q =
+    let x = num-front s 4 1 (omega arith) in
+    let y = num-front s 5 0 (omega arith) in
+    (omega arith, omega arith)
 
 -- too few bytes for a record: no content
 pub content-few : (s : Bytes) → length s < 6 → take (length s - length s) (drop (length s) s) ≡ contentOf s
@@ -30,7 +53,10 @@ content-past s n e h =
 pub content-whole : (s : Bytes) (n : ℕ) → n ≡ lengthOf s → take (n + 4 - 6) (drop 6 s) ≡ contentOf s
 content-whole s n e = let z : n + 4 - 6 ≡ lengthOf s - 2 = omega arith in ap (λ (x : ℕ). take x (drop 6 s)) z
 
--- a length past the end: nothing follows
+-- too few bytes for a length, or a length past the end: nothing follows
+pub rest-few : (s : Bytes) → length s < 4 → take (length s - length s) (drop (length s) s) ≡ restOf s
+rest-few s h = end-is s ∙ sym (drop-of-length-le s {i = 4 + lengthOf s} (omega arith))
+
 pub rest-past : (s : Bytes) (n : ℕ) → n ≡ lengthOf s → length s < n + 4 → take (length s - length s) (drop (length s) s) ≡ restOf s
 rest-past s n e h = end-is s ∙ sym (drop-of-length-le s {i = 4 + lengthOf s} (omega arith))
 

@@ -7,7 +7,8 @@ ghost use Rattle.wire.specs.Numbers.{num};
 ghost use Rattle.records.specs.Record.{lengthOf, kindOf, contentOf, restOf, firstRecord, recordAt};
 ghost use Rattle.records.specs.Reading.{short};
 
-// The number in w bytes of a slice, the lowest first, from a place on; what lies past its end counts as nothing.
+// The number in w bytes of a slice, the lowest first, from a place on; what lies past its end counts as nothing. Only a slice that ends
+// within a record's head is read so.
 fn number(s: &[u8], from: usize, w: usize) -> usize
     requires { ⌜ (from ≤ 4) × (w ≤ 4) ⌝ }
     ensures { λ r. ⌜ (r ≡ num (take w (drop from (now (s .entry))))) × (r < 256 ^ w) ⌝ }
@@ -28,12 +29,21 @@ fn number(s: &[u8], from: usize, w: usize) -> usize
 pub fn record_length(s: &[u8]) -> usize
     ensures { λ r. ⌜ (r ≡ lengthOf (now (s .entry))) × (r < 2 ^ 32) ⌝ }
 {
+    if 4 <= s.len() {
+        return wire::wide(s[0])
+            + 256 * wire::wide(s[1])
+            + 65536 * wire::wide(s[2])
+            + 16777216 * wire::wide(s[3]);
+    }
     number(s, 0, 4)
 }
 
 pub fn record_kind(s: &[u8]) -> usize
     ensures { λ r. ⌜ (r ≡ kindOf (now (s .entry))) × (r < 65536) ⌝ }
 {
+    if 6 <= s.len() {
+        return wire::wide(s[4]) + 256 * wire::wide(s[5]);
+    }
     number(s, 4, 2)
 }
 
@@ -54,11 +64,11 @@ pub fn is_short(s: &[u8]) -> bool
 pub fn content(s: &[u8]) -> &[u8]
     ensures { λ r. ⌜ now r ≡ contentOf (now (s .entry)) ⌝ }
 {
-    let n = record_length(s);
     let len = s.len();
     if len < 6 {
         return &s[len..];
     }
+    let n = record_length(s);
     if n < 2 {
         return &s[len..];
     }
@@ -72,8 +82,11 @@ pub fn content(s: &[u8]) -> &[u8]
 pub fn rest(s: &[u8]) -> &[u8]
     ensures { λ r. ⌜ now r ≡ restOf (now (s .entry)) ⌝ }
 {
-    let n = record_length(s);
     let len = s.len();
+    if len < 4 {
+        return &s[len..];
+    }
+    let n = record_length(s);
     let e = n + 4;
     if len < e {
         return &s[len..];

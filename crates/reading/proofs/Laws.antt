@@ -1,12 +1,11 @@
 -- The laws by which reading goes record by record, with the depth that is left. Assumes nothing.
-use mathlib.Core.Path.{_≡_, refl, ap, ap₂, sym, _∙_}
+use mathlib.Core.Path.{_≡_, refl, ap, ap₂, _∙_}
 use mathlib.Core.List.{List, [], _∷_}
 use mathlib.Core.Bool.{Bool, true, false, not, cond}
-use Prim.Native.Nat.{ℕ, zero, suc, _+_, _-_, _<_, _≤_}
+use Prim.Native.Nat.{ℕ, zero, suc, _+_, _<_}
 use native.Mathlib.Omega.{arith}
 use mathlib.Core.Option.{none, some}
-use lib.ListN.{length, drop, length-drop, drop-of-length-le}
-use lib.Seq.{drop-drop}
+use lib.ListN.{length, drop}
 use lib.Dec.{leb·suc-suc}
 use borrow.Author.Tests.{le-ltb}
 use Rattle.answers.specs.declared.Answer.{Answer}
@@ -17,12 +16,10 @@ use Rattle.wire.specs.Numbers.{Bytes}
 use Rattle.records.specs.Record.{lengthOf, kindOf, contentOf, restOf}
 use Rattle.records.specs.Kinds.{Place, stands, Content, bytes, these, any, atMostOne, contentAt}
 use Rattle.records.specs.Reading.{Next, done, leftOver, record-at, next, short, andThen, step, read, reading}
-use Rattle.records.proofs.Tree.{rest-length, content-length}
+use Rattle.records.proofs.Tree.{rest-length}
 use Rattle.records.specs.Kinds.{ofBytes}
 use Rattle.records.proofs.Fuel.{step-same, read-same}
-use Rattle.rast.proofs.Tests.{by-option}
-use Rattle.reading.proofs.Held.{held}
-use Rattle.reading.specs.Reads.{reads, readsRecord, after, firstOf, placeIn, mayEnd}
+use Rattle.reading.specs.Reads.{reads, readsRecord, after, firstOf, placeIn}
 
 -- one less deep and one less allowed is the same
 shifted : (x : Next) (limit depth at : ℕ) (s : Bytes) (content rest : Content → Verdict)
@@ -127,73 +124,6 @@ next-more (these ps) j (b ∷ t) q h e = rw (drop-some ps j q e)
 next-more (any p) j (b ∷ t) q h e = let g : p ≡ q = cc in ap (λ (x : Place). record-at x (any p)) g
 next-more (atMostOne p) zero (b ∷ t) q h e = let g : p ≡ q = cc in ap (λ (x : Place). record-at x (these [])) g
 next-more (atMostOne p) (suc j) (b ∷ t) q h e = absurd (let z : _≡_ {A = ℕ} 0 1 = cc in omega arith)
-
--- no bytes are left: the content may end there, or a record is short
-pub reads-end : (left : ℕ) (c : Content) (j at : ℕ) → reads left (after c j) at [] ≡ cond (mayEnd c j) Sound (Refused (ShortRecord at))
-reads-end left bytes j at = reads-done left bytes at [] refl
-reads-end left (these ps) j at =
-    by-option (firstOf (drop j ps))
-    (λ e. rw (e, drop-none ps j e) (reads-done left (these []) at [] refl))
-    (λ q e. rw (e, drop-some ps j q e) (reads-none left (these (q ∷ drop (suc j) ps)) at q (these (drop (suc j) ps)) refl))
-reads-end left (any p) j at = reads-done left (any p) at [] refl
-reads-end left (atMostOne p) zero at = reads-done left (atMostOne p) at [] refl
-reads-end left (atMostOne p) (suc j) at = reads-done left (these []) at [] refl
-
--- where a turn of the loop stands: i bytes and j records are read, all sound
-pub record Turn (left : ℕ) (c : Content) (at : ℕ) (s : Bytes) (i j : ℕ) : Type 0 where
-  pub inside : i ≤ length s
-  pub fewer : j ≤ i
-  pub same : reads left c at s ≡ reads left (after c j) (at + i) (drop i s)
-
-after-none : (c : Content) → after c 0 ≡ c
-after-none bytes = refl
-after-none (these ps) = refl
-after-none (any p) = refl
-after-none (atMostOne p) = refl
-
-pub turn-start : (left : ℕ) (c : Content) (at : ℕ) (s : Bytes) → Turn left c at s 0 0
-turn-start left c at s =
-    let e : at ≡ at + 0 = omega arith in
-    record { inside = omega arith; fewer = omega arith; same = ap₂ (λ (d : Content) (x : ℕ). reads left d x s) (sym (after-none c)) e }
-
--- a sound record on
-pub turn-on : (left : ℕ) (c : Content) (at : ℕ) (s : Bytes) (i j : ℕ) (q : Place) → Turn left c at s i j → i < length s → placeIn c j ≡ some q
-    → readsRecord left q (at + i) (drop i s) ≡ Sound
-    → Turn left c at s (i + (4 + lengthOf (drop i s))) (j + 1)
-turn-on left c at s i j q t h e v =
-    let l : short (drop i s) ≡ false = held left q (at + i) (drop i s) v .long in
-    let r = rest-length (drop i s) l in
-    let k = content-length (drop i s) l in
-    let d : length (drop i s) ≡ length s - i = length-drop i s in
-    record {
-      inside = omega arith;
-      fewer = (let f = t .fewer in omega arith);
-      same =
-          t .same ∙ reads-record left (after c j) (at + i) (drop i s) q (after c (suc j)) (next-more c j (drop i s) q (omega arith) e)
-          ∙ ap (λ (w : Verdict). andThen w (reads left (after c (suc j)) (at + i + (4 + lengthOf (drop i s))) (restOf (drop i s)))) v
-          ∙ ap₂ (λ (x y : ℕ). reads left (after c x) y (restOf (drop i s))) (let g : suc j ≡ j + 1 = omega arith in g)
-          (let g : at + i + (4 + lengthOf (drop i s)) ≡ at + (i + (4 + lengthOf (drop i s))) = omega arith in g)
-          ∙ ap (reads left (after c (j + 1)) (at + (i + (4 + lengthOf (drop i s))))) (drop-drop (4 + lengthOf (drop i s)) i s);
-    }
-
--- a refused record ends it
-pub turn-refused : (left : ℕ) (c : Content) (at : ℕ) (s : Bytes) (i j : ℕ) (q : Place) (a : Answer) → Turn left c at s i j → i < length s
-    → placeIn c j ≡ some q → readsRecord left q (at + i) (drop i s) ≡ Refused a
-    → Refused a ≡ reads left c at s
-turn-refused left c at s i j q a t h e v =
-    let d : length (drop i s) ≡ length s - i = length-drop i s in
-    sym (t .same ∙ reads-record left (after c j) (at + i) (drop i s) q (after c (suc j)) (next-more c j (drop i s) q (omega arith) e)
-    ∙ ap (λ (w : Verdict). andThen w (reads left (after c (suc j)) (at + i + (4 + lengthOf (drop i s))) (restOf (drop i s)))) v)
-
-pub turn-left : (left : ℕ) (c : Content) (at : ℕ) (s : Bytes) (i j : ℕ) → Turn left c at s i j → ofBytes c ≡ false → i < length s → placeIn c j ≡ none
-    → Refused (LeftOver (at + i)) ≡ reads left c at s
-turn-left left c at s i j t o h e =
-    let d : length (drop i s) ≡ length s - i = length-drop i s in
-    sym (t .same ∙ reads-leftOver left (after c j) (at + i) (drop i s) (next-left c j (drop i s) o (omega arith) e))
-
-pub turn-end : (left : ℕ) (c : Content) (at : ℕ) (s : Bytes) (i j : ℕ) → Turn left c at s i j → length s ≤ i
-    → cond (mayEnd c j) Sound (Refused (ShortRecord (at + i))) ≡ reads left c at s
-turn-end left c at s i j t h = sym (t .same ∙ ap (reads left (after c j) (at + i)) (drop-of-length-le s {i = i} h) ∙ reads-end left c j (at + i))
 
 -- the whole of a card's or a root's bytes: one record at a place, and nothing after it
 pub reading-is : (limit : ℕ) (p : Place) (s : Bytes) → reading limit p s ≡ reads limit (these (p ∷ [])) 0 s

@@ -1,6 +1,6 @@
 pub mod Held
 pub mod Laws
-pub mod Places
-pub mod Loop
-pub mod Whole
 pub mod Walk
+pub mod Rows
+pub mod Turns
+pub mod Whole

@@ -1,17 +1,16 @@
 -- Reading as the code goes about it: by the depth that is left, and record by record. Assumes nothing: these are definitions.
 use mathlib.Core.List.{List, [], _∷_}
-use mathlib.Core.Bool.{Bool, true, false, not, cond}
+use mathlib.Core.Bool.{not, cond}
 use mathlib.Core.Option.{Option, none, some}
 use Prim.Native.Nat.{ℕ, zero, suc, _+_}
 use lib.ListN.{length, drop}
-use Rattle.answers.specs.declared.Answer.the-variants.{ShortRecord, WrongKind, TooDeep}
+use Rattle.answers.specs.declared.Answer.the-variants.{BadRoot, ShortRecord, WrongKind, TooDeep}
 use Rattle.answers.specs.declared.Verdict.{Verdict}
-use Rattle.answers.specs.declared.Verdict.the-variants.{Refused}
+use Rattle.answers.specs.declared.Verdict.the-variants.{Sound, Refused}
 use Rattle.wire.specs.Numbers.{Bytes}
 use Rattle.records.specs.Record.{kindOf, contentOf}
 use Rattle.records.specs.Kinds.{Place, stands, Content, bytes, these, any, atMostOne, contentAt}
 use Rattle.records.specs.Reading.{short, read}
-use Rattle.rast.specs.Path.{whether}
 
 -- the bytes of a content at place at, whose records may go as deep as is left
 unfoldable pub reads : (left : ℕ) → Content → (at : ℕ) → Bytes → Verdict
@@ -46,9 +45,7 @@ placeIn (any p) j = some p
 placeIn (atMostOne p) zero = some p
 placeIn (atMostOne p) (suc j) = none
 
--- whether a content may end after j records
-abbrev pub mayEnd : Content → ℕ → Bool
-mayEnd bytes j = true
-mayEnd (these ps) j = whether (firstOf (drop j ps)) true (λ p. false)
-mayEnd (any p) j = true
-mayEnd (atMostOne p) j = true
+-- a root's verdict, and then what is said of the card: 3 where the root is none
+abbrev pub rootThen : Verdict → Verdict → Verdict
+rootThen Sound v = v
+rootThen (Refused a) v = Refused BadRoot

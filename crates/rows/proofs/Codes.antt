@@ -1,20 +1,19 @@
 -- The laws of the places as numbers. What holds of every row rests on one test over all rows, what holds of every place of one record on one
 -- test over those, and antt computes both. Assumes nothing.
 use mathlib.Core.Path.{_≡_, refl, sym, ap, ap₂, subst, _∙_}
-use mathlib.Core.List.{List, [], _∷_, map}
-use mathlib.Core.Bool.{Bool, true, false, _&&_, cond}
+use mathlib.Core.List.{List, [], _∷_}
+use mathlib.Core.Bool.{Bool, true, false, _&&_, _||_, cond, false≢true}
 use Prim.Native.Nat.{ℕ, zero, suc, _+_, _-_, _%_, _<_, _≤_}
 use native.Mathlib.Nat.{add-zero, zero-add, add-suc, suc-add, le-of-suc-le-suc, not-suc-le-zero}
 use native.Mathlib.Omega.{arith}
 use native.Mathlib.Decide.{decLt}
-use lib.ListN.{length, getD, drop, List·getD-eq-default}
-use lib.Seq.{drop-nil}
+use lib.ListN.{length, getD, List·getD-eq-default}
 use lib.Dec.{eqb, leb, ltb}
-use borrow.Author.Tests.{eqb-true, ltb-true, leb-true, le-leb, lt-leb}
+use borrow.Author.Tests.{eqb-true, ltb-true, leb-true, le-leb, lt-leb, le-ltb, ne-eqb}
 use Rattle.records.specs.Record.{isLeaf}
-use Rattle.records.specs.Kinds.{Place, kinds, name, seq, option, one, Row, rows, rowIn, rowOf, mod′, path, bytes, these, any, atMostOne, contentAt}
-use Rattle.records.proofs.Run.{both}
-use Rattle.rows.specs.Codes.{bases, baseOf, placeOf, samePlace, codeOf, codeAt}
+use Rattle.records.specs.Kinds.{Place, kinds, name, seq, option, one, Row, rows, rowIn, rowOf, stands, mod′, path, bytes, these, any, atMostOne, contentAt}
+use Rattle.records.proofs.Run.{both, within}
+use Rattle.rows.specs.Codes.{bases, baseOf, placeOf, samePlace, codeOf}
 
 -- a test at each element of a list and its place, counted from i; and at the element of a place
 abbrev pub every : {A : Type 0} → (ℕ → A → Bool) → ℕ → List A → Bool
@@ -56,15 +55,15 @@ rightPlaces [] = true
 rightPlaces (p ∷ ps) = rightPlace p && rightPlaces ps
 
 rightRow : ℕ → List Place → Bool
-rightRow k ps = ltb k 135 && (leb (length ps) 8 && rightPlaces ps)
+rightRow k ps = ltb k 135 && (leb (length ps) 7 && rightPlaces ps)
 
 rightRows : List Row → Bool
 rightRows [] = true
 rightRows (r ∷ rs) = rightRow (r .kind) (r .places) && rightRows rs
 
--- so a row has at most eight places, a kind from 135 on has none, and each place is right
+-- so a row has at most seven places, a kind from 135 on has none, and each place is right
 record Right (k : ℕ) (ps : List Place) : Type 0 where
-  short : length ps ≤ 8
+  short : length ps ≤ 7
   past : 135 ≤ k → ps ≡ []
   places : rightPlaces ps ≡ true
 
@@ -75,10 +74,10 @@ right-none k = record { short = omega arith; past = λ h. refl; places = refl }
 right-row : (k : ℕ) (ps : List Place) → rightRow k ps ≡ true → Right k ps
 unfolding rightRow
 right-row k ps t =
-    let a = both (ltb k 135) (leb (length ps) 8 && rightPlaces ps) t in
-    let b = both (leb (length ps) 8) (rightPlaces ps) (a .1) in
+    let a = both (ltb k 135) (leb (length ps) 7 && rightPlaces ps) t in
+    let b = both (leb (length ps) 7) (rightPlaces ps) (a .1) in
     let l = ltb-true k 135 (a .0) in
-    record { short = leb-true (length ps) 8 (b .0); past = λ h. absurd (omega arith); places = b .1 }
+    record { short = leb-true (length ps) 7 (b .0); past = λ h. absurd (omega arith); places = b .1 }
 
 right-in : (rs : List Row) → rightRows rs ≡ true → (k : ℕ) → Right k (rowIn rs k)
 unfolding rightRows
@@ -99,10 +98,10 @@ pub record Number (c : ℕ) : Type 0 where
   pub within : c % 32 < 27
   pub some : 0 < c → 0 < c % 32
 
-record Coded (p : Place) : Type 0 where
-  is : placeOf (codeOf p) ≡ p
-  number : Number (codeOf p)
-  more : 0 < codeOf p
+pub record Coded (p : Place) : Type 0 where
+  pub is : placeOf (codeOf p) ≡ p
+  pub number : Number (codeOf p)
+  pub more : 0 < codeOf p
 
 right-place : (p : Place) → rightPlace p ≡ true → Coded p
 unfolding rightPlace
@@ -118,60 +117,21 @@ right-place p t =
       more = omega arith;
     }
 
--- the places of a row: no number, no place; a number, its place; and each number is one that occurs
-none-at : (ps : List Place) → rightPlaces ps ≡ true → (j : ℕ) → getD (map codeOf ps) j 0 ≡ 0 → drop j ps ≡ []
-unfolding rightPlaces
-none-at [] t j e = drop-nil j
-none-at (p ∷ ps) t zero e = let m = right-place p (both (rightPlace p) (rightPlaces ps) t .0) .more in absurd (omega arith)
-none-at (p ∷ ps) t (suc j) e = none-at ps (both (rightPlace p) (rightPlaces ps) t .1) j e
+-- each place of a row has a number
+unfoldable pub AllCoded : List Place → Type 0
+AllCoded [] = Unit {0}
+AllCoded (p ∷ ps) = Coded p × AllCoded ps
 
-some-at : (ps : List Place) → rightPlaces ps ≡ true → (j : ℕ) → (getD (map codeOf ps) j 0 ≡ 0 → ⊥)
-    → drop j ps ≡ placeOf (getD (map codeOf ps) j 0) ∷ drop (suc j) ps
-unfolding rightPlaces
-some-at [] t j n = absurd (n refl)
-some-at (p ∷ ps) t zero n = ap (λ (q : Place). q ∷ ps) (sym (right-place p (both (rightPlace p) (rightPlaces ps) t .0) .is))
-some-at (p ∷ ps) t (suc j) n = some-at ps (both (rightPlace p) (rightPlaces ps) t .1) j n
+all-coded : (ps : List Place) → rightPlaces ps ≡ true → AllCoded ps
+unfolding rightPlaces AllCoded
+all-coded [] t = tt
+all-coded (p ∷ ps) t = let a = both (rightPlace p) (rightPlaces ps) t in (right-place p (a .0), all-coded ps (a .1))
 
-number-at : (ps : List Place) → rightPlaces ps ≡ true → (j : ℕ) → Number (getD (map codeOf ps) j 0)
-unfolding rightPlaces
-number-at [] t j = record { below = omega arith; within = omega arith; some = omega arith }
-number-at (p ∷ ps) t zero = right-place p (both (rightPlace p) (rightPlaces ps) t .0) .number
-number-at (p ∷ ps) t (suc j) = number-at ps (both (rightPlace p) (rightPlaces ps) t .1) j
+pub row-coded : (k : ℕ) → AllCoded (rowOf k)
+row-coded k = all-coded (rowOf k) (right k .places)
 
--- field j of a record of kind k: no number, no more places; a number, the place that it means
-pub code-none : (k j : ℕ) → codeAt k j ≡ 0 → drop j (rowOf k) ≡ []
-unfolding codeAt
-code-none k j e = none-at (rowOf k) (right k .places) j e
-
-pub code-some : (k j : ℕ) → (codeAt k j ≡ 0 → ⊥) → drop j (rowOf k) ≡ placeOf (codeAt k j) ∷ drop (suc j) (rowOf k)
-unfolding codeAt
-code-some k j n = some-at (rowOf k) (right k .places) j n
-
-pub code-number : (k j : ℕ) → Number (codeAt k j)
-unfolding codeAt
-code-number k j = number-at (rowOf k) (right k .places) j
-
-pub code-below : (k j : ℕ) → codeAt k j < 96
-code-below k j = code-number k j .below
-
-pub code-one : (k j : ℕ) → codeAt k j < 32 → codeAt k j < 27
-code-one k j h = let w = code-number k j .within in omega arith
-
-pub code-seq : (k j : ℕ) → 32 ≤ codeAt k j → codeAt k j < 64 → (0 < codeAt k j - 32) × (codeAt k j - 32 < 27)
-code-seq k j h g =
-    let w = code-number k j .within in
-    let s = code-number k j .some (omega arith) in
-    omega arith
-
-pub code-option : (k j : ℕ) → 64 ≤ codeAt k j → (0 < codeAt k j - 64) × (codeAt k j - 64 < 27)
-code-option k j h =
-    let w = code-number k j .within in
-    let b = code-number k j .below in
-    let s = code-number k j .some (omega arith) in
-    omega arith
-
--- a row's places fit in eight bytes, and past the table there is none
-pub row-short : (k : ℕ) → length (rowOf k) ≤ 8
+-- a row's places fit in seven bytes, and past the table there is none
+pub row-short : (k : ℕ) → length (rowOf k) ≤ 7
 row-short k = right k .short
 
 pub row-past : (k : ℕ) → 135 ≤ k → rowOf k ≡ []
@@ -225,6 +185,41 @@ base-one c =
 
 pub place-is-one : (c : ℕ) → c < 32 → oneAt c (placeOf c) ≡ true
 place-is-one c h = ap (oneAt c) (place-one c h) ∙ base-one c
+
+-- at a place of one record from 4 on stands no leaf
+innerAt : ℕ → Place → Bool
+innerAt i (kinds from to) = ltb i 4 || ltb 3 from
+innerAt i name = ltb i 4
+innerAt i (seq p) = false
+innerAt i (option p) = false
+
+pub inner-kind : (c k : ℕ) → 3 < c → c < 32 → stands (placeOf c) k ≡ true → isLeaf k ≡ false
+unfolding innerAt
+inner-kind c k h l t =
+    elim (decLt c 27) [
+      | yes g ↦ go (baseOf c) (rw (zero-add c) at (at innerAt bases 0 refl c (one 0) g)) (sym (ap (λ (q : Place). stands q k) (place-one c l)) ∙ t)
+      | no g ↦ (let e = within 0 0 k (sym (ap (λ (q : Place). stands q k) (place-one c l ∙ base-past c (omega arith))) ∙ t) in
+          let z : k ≡ 0 = omega arith in ap isLeaf z)
+    ]
+  where
+    go : (p : Place) → innerAt c p ≡ true → stands p k ≡ true → isLeaf k ≡ false
+    go (kinds from to) i e =
+        let f : ltb 3 from ≡ true = sym (ap (λ (b : Bool). b || ltb 3 from) (le-ltb c 4 (omega arith))) ∙ i in
+        let w = within from to k e in
+        let f′ = ltb-true 3 from f in
+        rw (ne-eqb k 1 (λ x. omega arith), ne-eqb k 3 (λ x. omega arith))
+    go name i e = absurd (false≢true (sym (le-ltb c 4 (omega arith)) ∙ i))
+    go (seq p) i e = cc
+    go (option p) i e = cc
+
+-- at the places of one record before that stands one
+pub leaf-bytes : (c k : ℕ) → (c ≡ 0 → ⊥) → c < 4 → stands (placeOf c) k ≡ true → contentAt (placeOf c) k ≡ bytes
+unfolding contentAt placeOf
+leaf-bytes zero k n h t = absurd (n refl)
+leaf-bytes (suc zero) k n h t = let w = within 1 1 k t in let e : k ≡ 1 = omega arith in rw e
+leaf-bytes (suc (suc zero)) k n h t = let w = within 3 3 k t in let e : k ≡ 3 = omega arith in rw e
+leaf-bytes (suc (suc (suc zero))) k n h t = refl
+leaf-bytes (suc (suc (suc (suc c)))) k n h t = absurd (omega arith)
 
 -- what a record of kind k at a place holds, by the place's number
 pub content-name : (k : ℕ) → contentAt (placeOf 3) k ≡ bytes

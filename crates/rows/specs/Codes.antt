@@ -4,7 +4,7 @@ use mathlib.Core.Bool.{Bool, true, false, _&&_, cond}
 use Prim.Native.Nat.{ℕ, zero, suc, _+_, _-_}
 use lib.ListN.{getD}
 use lib.Dec.{eqb, leb}
-use Rattle.wire.specs.Numbers.{le, num}
+use Rattle.wire.specs.Numbers.{num}
 use Rattle.records.specs.Kinds.{Place, kinds, one, name, seq, option, path, type, expr, mod′, rowOf}
 
 -- the places of one record, from 0: none
@@ -49,10 +49,6 @@ codeOf name = indexIn bases name
 codeOf (seq p) = 32 + indexIn bases p
 codeOf (option p) = 64 + indexIn bases p
 
--- the number of the place of field j of a record of kind k; 0 where it has no such field
-unfoldable pub codeAt : ℕ → ℕ → ℕ
-codeAt k j = getD (map codeOf (rowOf k)) j 0
-
 -- a row for each of n kinds from a on: the number whose bytes are the places' numbers, the first place's the lowest
 unfoldable pub tableFrom : (n a : ℕ) → List ℕ
 tableFrom zero a = []
@@ -60,7 +56,3 @@ tableFrom (suc n) a = num (map codeOf (rowOf a)) ∷ tableFrom n (suc a)
 
 unfoldable pub table : List ℕ
 table = tableFrom 135 0
-
--- what a table of rows says of field j of kind k: byte j of row k
-unfoldable pub codeFrom : List ℕ → ℕ → ℕ → ℕ
-codeFrom t k j = getD (le 8 (getD t k 0)) j 0

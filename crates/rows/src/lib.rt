@@ -1,8 +1,9 @@
 // The rows of child places, one for each kind, and which kinds may stand at a place. A place is a number: 0 is none, 1 to 0x1A one record,
 // 0x20 more a seq of it, 0x40 more an Option of it. FIRST names the places of one record.
 ghost use mathlib.Core.Path.{_≡_};
+ghost use lib.ListN.{getD};
 ghost use Rattle.records.specs.Kinds.{stands};
-ghost use Rattle.rows.specs.Codes.{placeOf, codeFrom, table as Codes·table};
+ghost use Rattle.rows.specs.Codes.{placeOf, table as Codes·table};
 
 // A row for each kind from 0 to 0x86: a byte for each field's place, the first field's the lowest.
 const ROWS: [u64; 135] = [
@@ -211,15 +212,12 @@ pub fn table() -> [u64; 135]
     ROWS
 }
 
-// The place of field j of a record of kind k, by a table of rows; 0 where it has no such field.
-pub fn place_at(t: &[u64], k: usize, j: usize) -> usize
-    ensures { λ r. ⌜ r ≡ codeFrom (now (t .entry)) k j ⌝ }
+// The row of kind k, by a table of rows; 0, which names no place, past its end.
+pub fn row_at(t: &[u64], k: usize) -> u64
+    ensures { λ r. ⌜ r ≡ getD (now (t .entry)) k 0 ⌝ }
 {
     if k < t.len() {
-        if j < 8 {
-            let below = 8 * j;
-            return ((t[k] >> below) % 256) as usize;
-        }
+        return t[k];
     }
     0
 }

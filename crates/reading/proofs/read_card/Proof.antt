@@ -1,17 +1,21 @@
 -- `reading::read_card` meets its contract: the number of its place means that place. Assumes nothing.
-use native.Mathlib.Omega.{arith}
-use mathlib.Core.Path.{ap, _∙_}
-use Rattle.records.specs.Kinds.{Place}
-use Rattle.records.specs.Reading.{reading}
-use Rattle.rows.proofs.Codes.{place-mod}
+use borrow.Author.Needs.{needs}
+use Rattle.reading.proofs.Whole.{read-card-is}
 use Rattle.reading.proofs.read_card.Statement.{statement}
 use Rattle.reading.proofs.read_card.Tie as tie
 
+table-requires : tie.Need-table-requires
+table-requires c κs = search needs
+
+slice-aggregate-read-one : tie.Need-slice-aggregate-read-one
+slice-aggregate-read-one c = search needs
+
 read-one-requires : tie.Need-read-one-requires
-read-one-requires c κs = record { small = omega arith; some-seq = λ e. omega arith; some-option = λ e. omega arith }
+read-one-requires c κs = search needs
 
 returns : tie.Need-returns
-returns c = c .read-one .ensures ∙ ap (λ (p : Place). reading 48 p (c .before .before .args .card .now)) place-mod
+returns c = read-card-is _ (c .before .before .before .before .args .card .now) (c .read-one .ensures)
 
 pub read-card-spec : {M : Type 1} → statement M
-read-card-spec = tie.close (tie.spec read-one-requires returns)
+read-card-spec =
+    tie.close (tie.spec table-requires slice-aggregate-read-one read-one-requires returns)

@@ -1,17 +1,21 @@
 -- `reading::read_root` meets its contract: the number of its place means that place. Assumes nothing.
-use native.Mathlib.Omega.{arith}
-use mathlib.Core.Path.{ap, _∙_}
-use Rattle.records.specs.Kinds.{Place}
-use Rattle.records.specs.Reading.{reading}
-use Rattle.rows.proofs.Codes.{place-path}
+use borrow.Author.Needs.{needs}
+use Rattle.reading.proofs.Whole.{read-root-is}
 use Rattle.reading.proofs.read_root.Statement.{statement}
 use Rattle.reading.proofs.read_root.Tie as tie
 
+table-requires : tie.Need-table-requires
+table-requires c κs = search needs
+
+slice-aggregate-read-one : tie.Need-slice-aggregate-read-one
+slice-aggregate-read-one c = search needs
+
 read-one-requires : tie.Need-read-one-requires
-read-one-requires c κs = record { small = omega arith; some-seq = λ e. omega arith; some-option = λ e. omega arith }
+read-one-requires c κs = search needs
 
 returns : tie.Need-returns
-returns c = c .read-one .ensures ∙ ap (λ (p : Place). reading 8 p (c .before .before .args .root .now)) place-path
+returns c = read-root-is _ (c .before .before .before .before .args .root .now) (c .read-one .ensures)
 
 pub read-root-spec : {M : Type 1} → statement M
-read-root-spec = tie.close (tie.spec read-one-requires returns)
+read-root-spec =
+    tie.close (tie.spec table-requires slice-aggregate-read-one read-one-requires returns)

@@ -1,5 +1,5 @@
 //! Shortening in Rust, twice, and cards to hold them against the proved code.
-mod cards;
+pub mod cards;
 pub mod classes;
 #[cfg(feature = "console")]
 pub mod console;

@@ -70,7 +70,8 @@ module _ (s : Scope) where
       subst (λ (w : ℕ). Chained s
       (putPair words i (bucketOf (s .op) words (nameAt (s .card) words i)) (getD words (4 * i) 0) (getD words (4 * i + 1) 0) w) (suc i))
       (sym e)
-      (chained-put s words i (getD words (4 * i) 0) (getD words (4 * i + 1) 0) (placeIn (wordAt words i)) (let z : placeIn (wordAt words i) < 65536 = omega arith in z) r c)
+      (chained-put s words i (getD words (4 * i) 0) (getD words (4 * i + 1) 0) (placeIn (wordAt words i))
+      (let z : placeIn (wordAt words i) < 65536 = omega arith in z) r c)
 
   -- n pairs put again behind i that are: the chains of all are whole, and each is what it was
   pub record Rechained (these words : List ℕ) (n : ℕ) : Type 0 where

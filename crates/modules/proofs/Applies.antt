@@ -303,7 +303,8 @@ module _ (op : Shortening) (card root : Bytes) (small : length card ≤ 65536) (
           (λ t. rw (span-there st, alone-kind d h, t) (plain-declared d from t f h st (omega arith) b owner held w s))
 
   -- a Mod, by its fields
-  module _ (depth n : ℕ) (below : (w : ℕ) → Law op card root w depth) (chain : List ℕ) (fewer : length chain + suc depth ≤ 48) (at : ℕ) (S : Path) (d a t : Record) (c : Records)
+  module _ (depth n : ℕ) (below : (w : ℕ) → Law op card root w depth) (chain : List ℕ) (fewer : length chain + suc depth ≤ 48) (at : ℕ) (S : Path)
+      (d a t : Record) (c : Records)
       (d-fits : Fits d (one 0x01)) (a-fits : Fits a (one 0x03)) (t-fits : Fits t (one 0x01)) (c-fits : FitsAll c (any (kinds 0x62 0x6A)))
       (here : Stands op card root chain at (Mod d a t c) S) (shallow : deep (Mod d a t c) ≤ suc depth) (falls : deep (Mod d a t c) ≤ suc n) where
     abbrev This : Record

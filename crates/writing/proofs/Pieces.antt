@@ -77,7 +77,8 @@ module _ (words : List ℕ) (pairs k : ℕ) (e : k ≡ min (4 * pairs) (length w
       take-all (length words - k) (drop k words) (let d = length-drop k words in omega arith)
       ∙ by-test (leb (4 * pairs) (length words))
       (λ t. let l = leb-true (4 * pairs) (length words) t in let z : k ≡ 4 * pairs = omega arith in rw z)
-      (λ t. let l = leb-false (4 * pairs) (length words) t in drop-of-length-le words {i = k} (omega arith) ∙ sym (drop-of-length-le words {i = 4 * pairs} (omega arith)))
+      (λ t. let l = leb-false (4 * pairs) (length words) t in
+      drop-of-length-le words {i = k} (omega arith) ∙ sym (drop-of-length-le words {i = 4 * pairs} (omega arith)))
 
   free-back : (part : List ℕ) → back words k part ≡ take (4 * pairs) words ++ part
   free-back part =
@@ -161,7 +162,8 @@ module _ (op : Shortening) (card root : Bytes) where
 
     pub body-gives : (out : Bytes) (q k u p : ℕ) (part part′ : Bytes) (words : List ℕ) (len full owner pairs : ℕ) (after : Bytes) → q ≡ min 6 (length out)
         → k ≡ min (4 * mine .count) (length (mine .words))
-        → Laid (lent out q) 0 (importsBytes (scope op card root chain) (take k (mine .words)) (mine .count)) u part → p ≡ min (u + 6) (length (back out q part)) → Wrote (lent (back out q part) p) part′ words len full owner pairs Each
+        → Laid (lent out q) 0 (importsBytes (scope op card root chain) (take k (mine .words)) (mine .count)) u part
+        → p ≡ min (u + 6) (length (back out q part)) → Wrote (lent (back out q part) p) part′ words len full owner pairs Each
         → after ≡ lay (back (back out q part) p part′) 0 (headBytes (u + len + 2) 2)
         → Wrote out after words (u + len + 6) full owner pairs (bodyMade op card root f depth chain at (span from to) mine)
     unfolding bodyMade

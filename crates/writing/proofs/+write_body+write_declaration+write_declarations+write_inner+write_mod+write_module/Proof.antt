@@ -412,13 +412,16 @@ write-declaration-sub-part t c =
 write-declaration-part-requires : (t : ℕ) → write-declaration-lts.Need-part-requires (write-declaration-calls t) (write-declaration-at t) write-declaration.Post
 write-declaration-part-requires t c κs = search needs
 
-write-declaration-record-kind-requires : (t : ℕ) → write-declaration-lts.Need-record-kind-requires (write-declaration-calls t) (write-declaration-at t) write-declaration.Post
+write-declaration-record-kind-requires : (t : ℕ) → write-declaration-lts.Need-record-kind-requires (write-declaration-calls t) (write-declaration-at t)
+    write-declaration.Post
 write-declaration-record-kind-requires t c κs = search needs
 
-write-declaration-sub-write-inner : (t : ℕ) → write-declaration-lts.Need-sub-write-inner (write-declaration-calls t) (write-declaration-at t) write-declaration.Post
+write-declaration-sub-write-inner : (t : ℕ) → write-declaration-lts.Need-sub-write-inner (write-declaration-calls t) (write-declaration-at t)
+    write-declaration.Post
 write-declaration-sub-write-inner t c = search needs
 
-write-declaration-write-inner-requires : (t : ℕ) → write-declaration-lts.Need-write-inner-requires (write-declaration-calls t) (write-declaration-at t) write-declaration.Post
+write-declaration-write-inner-requires : (t : ℕ) → write-declaration-lts.Need-write-inner-requires (write-declaration-calls t) (write-declaration-at t)
+    write-declaration.Post
 write-declaration-write-inner-requires t c κs = search needs
 
 write-declaration-same-length : (t : ℕ) → write-declaration-lts.Need-same-length (write-declaration-calls t) (write-declaration-at t) write-declaration.Post
@@ -438,10 +441,12 @@ write-declaration-returns t c =
     (args .chain .now) (args .at) (args .from) (args .to) (args .owner) (table (args .pairs) (args .work .now)) _ (part .ensures) _ (record-kind .ensures .0)
     (if1 .taken) _ _ _ _ _ _ _ (write-inner .ensures)
 
-write-declaration-table-of-requires : (t : ℕ) → write-declaration-lts.Need-table-of-requires (write-declaration-calls t) (write-declaration-at t) write-declaration.Post
+write-declaration-table-of-requires : (t : ℕ) → write-declaration-lts.Need-table-of-requires (write-declaration-calls t) (write-declaration-at t)
+    write-declaration.Post
 write-declaration-table-of-requires t c κs = search needs
 
-write-declaration-own-words-requires : (t : ℕ) → write-declaration-lts.Need-own-words-requires (write-declaration-calls t) (write-declaration-at t) write-declaration.Post
+write-declaration-own-words-requires : (t : ℕ) → write-declaration-lts.Need-own-words-requires (write-declaration-calls t) (write-declaration-at t)
+    write-declaration.Post
 write-declaration-own-words-requires t c κs = search needs
 
 write-declaration-slice-reshare-prefix-replace :
@@ -454,7 +459,8 @@ write-declaration-slice-aggregate-replace t c =
     let own-words = c .before .own-words in
     sym (length-take-le _ _ (omega (arith, own-words .ensures)))
 
-write-declaration-replace-requires : (t : ℕ) → write-declaration-lts.Need-replace-requires (write-declaration-calls t) (write-declaration-at t) write-declaration.Post
+write-declaration-replace-requires : (t : ℕ) → write-declaration-lts.Need-replace-requires (write-declaration-calls t) (write-declaration-at t)
+    write-declaration.Post
 write-declaration-replace-requires t c κs = search needs
 
 write-declaration-same-length-3 : (t : ℕ) → write-declaration-lts.Need-same-length-3 (write-declaration-calls t) (write-declaration-at t) write-declaration.Post
@@ -980,7 +986,8 @@ write-inner-returns-2 t c =
     let write-module2 = c .before .before .before .before .before .before .before .before .before .before .write-module2 in
     let lay-head2 = c .before .before .before .lay-head2 in
     alone-gives (moduleMade (args .op) (args .card .now) (args .root .now) (args .left) (args .chain .now)) (args .at) (args .from) (args .to) (args .owner)
-    (args .pairs) (args .work .now) _ (has-room-beside .ensures) (args .out .now) _ (least .ensures) (if1 .left) _ _ _ _ _ _ _ (write-module2 .ensures) (lay-head2 .ensures)
+    (args .pairs) (args .work .now) _ (has-room-beside .ensures) (args .out .now) _ (least .ensures)
+    (if1 .left) _ _ _ _ _ _ _ (write-module2 .ensures) (lay-head2 .ensures)
 
 write-mod-sub-part : (t : ℕ) → write-mod-lts.Need-sub-part (write-mod-calls t) (write-mod-at t) write-mod.Post
 write-mod-sub-part t c =

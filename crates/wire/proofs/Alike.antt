@@ -1,15 +1,16 @@
--- Comparing bytes from the first to the last, and in two parts. Assumes nothing.
+-- Comparing bytes from the first to the last, one or eight at a time, and in two parts. Assumes nothing.
 use mathlib.Core.Path.{_≡_, refl, ap, sym, _∙_}
 use mathlib.Core.List.{[], _∷_, _++_}
 use mathlib.Core.Bool.{Bool, true, false, _&&_, and-assoc}
-use Prim.Native.Nat.{ℕ, suc, _+_, _<_, _≤_}
+use Prim.Native.Nat.{ℕ, suc, _+_, _-_, _*_, _^_, _<_, _≤_}
 use native.Mathlib.Omega.{arith}
 use native.Mathlib.Numerals.{add-one}
-use lib.ListN.{length, take, drop, getD, drop-of-length-le}
-use lib.Seq.{drop-cons}
+use lib.ListN.{length, take, drop, getD, length-drop, drop-of-length-le, take-append-drop}
+use lib.Seq.{length-take-le, take-all, drop-cons, drop-drop}
 use lib.Dec.{eqb}
-use borrow.Author.Tests.{eq-eqb, ne-eqb}
-use Rattle.wire.specs.Numbers.{Bytes, sameBytes}
+use borrow.Author.Tests.{eqb-true, eqb-false, eq-eqb, ne-eqb}
+use Rattle.wire.specs.Numbers.{Bytes, num, sameBytes}
+use Rattle.wire.proofs.Numbers.{num-same, take-bytes, drop-bytes, are-bytes, num-front, sameBytes-self, sameBytes-true}
 
 pub other-length : (a b : Bytes) → (length a ≡ length b → ⊥) → false ≡ sameBytes a b
 unfolding sameBytes
@@ -30,6 +31,48 @@ same-parts [] (y ∷ h) t l = absurd (omega arith)
 same-parts (x ∷ s) (y ∷ h) t l =
     and-assoc (eqb x y) (sameBytes (take (length h) s) h) (sameBytes (drop (length h) s) t)
     ∙ ap (λ (b : Bool). eqb x y && b) (same-parts s h t (omega arith))
+
+-- the eight bytes at a place, and a byte as it was read
+abbrev Eight : Bytes → ℕ → Bytes
+Eight s at = take 8 (drop at s)
+
+abbrev Byte : Bytes → ℕ → ℕ → Type 0
+Byte s i b = (b ≡ getD s i 0) × (b < 256)
+
+next-byte : (s : Bytes) (i j k : ℕ) → j ≡ i + 1 → i < length s → num (take (suc k) (drop i s)) ≡ getD s i 0 + 256 * num (take k (drop j s))
+next-byte s i j k e h = let n = num-front s i k h in rw (e, add-one i) (omega arith)
+
+-- four bytes more in front
+next-four : (s : Bytes) (at k : ℕ) → at + 4 ≤ length s
+    → num (take (suc (suc (suc (suc k)))) (drop at s))
+    ≡ getD s at 0 + 256 * getD s (at + 1) 0 + 65536 * getD s (at + 2) 0 + 16777216 * getD s (at + 3) 0 + 4294967296 * num (take k (drop (at + 4) s))
+next-four s at k l =
+    let w = next-byte s at (at + 1) (suc (suc (suc k))) (omega arith) (omega arith) in
+    let x = next-byte s (at + 1) (at + 2) (suc (suc k)) (omega arith) (omega arith) in
+    let y = next-byte s (at + 2) (at + 3) (suc k) (omega arith) (omega arith) in
+    let z = next-byte s (at + 3) (at + 4) k (omega arith) (omega arith) in
+    omega arith
+
+pub four-is : (s : Bytes) (at a b c d : ℕ) → at + 4 ≤ length s → Byte s at a → Byte s (at + 1) b → Byte s (at + 2) c → Byte s (at + 3) d
+    → (a + 256 * b + 65536 * c + 16777216 * d ≡ num (take 4 (drop at s))) × (a + 256 * b + 65536 * c + 16777216 * d < 2 ^ 32)
+unfolding num
+four-is s at a b c d l p q r t = let f = next-four s at 0 l in (omega arith, omega arith)
+
+pub eight-is : (s : Bytes) (at m n : ℕ) → at + 8 ≤ length s → m ≡ num (take 4 (drop at s)) → n ≡ num (take 4 (drop (at + 4) s))
+    → m + 4294967296 * n ≡ num (Eight s at)
+unfolding num
+eight-is s at m n l p q = let f = next-four s at 0 (omega arith) in let g = next-four s at 4 (omega arith) in omega arith
+
+eight-long : (s : Bytes) (at : ℕ) → at + 8 ≤ length s → length (Eight s at) ≡ 8
+eight-long s at h = let d = length-drop at s in length-take-le 8 (drop at s) (omega arith)
+
+-- bytes whose eight at a place hold different numbers are not the same
+pub not-eight : (a b : Bytes) (at m n : ℕ) → m ≡ num (Eight a at) → n ≡ num (Eight b at) → (m ≡ n → ⊥) → false ≡ sameBytes a b
+not-eight a b at m n p q d = go (sameBytes a b) refl
+  where
+    go : (x : Bool) → sameBytes a b ≡ x → false ≡ x
+    go true e = absurd (d (p ∙ ap (λ (s : Bytes). num (Eight s at)) (sameBytes-true a b e) ∙ sym q))
+    go false e = refl
 
 -- the first i bytes are the same
 pub record Alike (a b : Bytes) (i : ℕ) : Type 0 where
@@ -58,3 +101,41 @@ module _ (a b : Bytes) (i : ℕ) (l : Alike a b i) where
         inside = omega arith;
         rest = l .rest ∙ rw (add-one i, drop-cons a i 0 h, drop-cons b i 0 (omega arith), eq-eqb (getD a i 0) (getD b i 0) e);
       }
+
+  module _ (ka : (k : ℕ) → getD a k 0 < 256) (kb : (k : ℕ) → getD b k 0 < 256) (m n : ℕ) where
+    -- eight bytes that hold the same number are the same
+    eight-same : (at : ℕ) → at + 8 ≤ length a → m ≡ num (Eight a at) → n ≡ num (Eight b at) → m ≡ n → Eight a at ≡ Eight b at
+    eight-same at h p q e =
+        let k = l .long in
+        num-same (Eight a at) (Eight b at) (take-bytes 8 (drop at a) (drop-bytes at a (are-bytes a ka)))
+        (take-bytes 8 (drop at b) (drop-bytes at b (are-bytes b kb))) (eight-long a at h ∙ sym (eight-long b at (omega arith))) (sym p ∙ e ∙ q)
+
+    pub alike-eight : i + 8 ≤ length a → m ≡ num (Eight a i) → n ≡ num (Eight b i) → m ≡ n → Alike a b (i + 8)
+    alike-eight h p q e =
+        let k = l .long in
+        let d = length-drop i a in
+        let w = eight-long b i (omega arith) in
+        let split = rw w at (same-parts (drop i a) (Eight b i) (drop 8 (drop i b)) (omega arith)) in
+        record {
+          long = l .long;
+          inside = omega arith;
+          rest =
+              l .rest
+              ∙ sym (rw (take-append-drop 8 (drop i b), eight-same i h p q e, sameBytes-self (Eight b i), drop-drop 8 i a, drop-drop 8 i b) at split);
+        }
+
+    -- the last eight bytes decide where all before them are the same
+    pub alike-last : (at : ℕ) → at ≤ i → length a ≡ at + 8 → m ≡ num (Eight a at) → n ≡ num (Eight b at) → eqb m n ≡ sameBytes a b
+    alike-last at h len p q = go (eqb m n) refl
+      where
+        tail : (s : Bytes) → length s ≡ at + 8 → Eight s at ≡ drop at s
+        tail s g = let d = length-drop at s in take-all 8 (drop at s) (omega arith)
+
+        go : (x : Bool) → eqb m n ≡ x → x ≡ sameBytes a b
+        go false t = not-eight a b at m n p q (eqb-false m n t)
+        go true t =
+            let k = l .long in
+            let e : drop at a ≡ drop at b = sym (tail a len) ∙ eight-same at (omega arith) p q (eqb-true m n t) ∙ tail b (omega arith) in
+            let z : at + (i - at) ≡ i = omega arith in
+            let u : drop i a ≡ drop i b = sym (rw z at (drop-drop (i - at) at a)) ∙ ap (drop (i - at)) e ∙ rw z at (drop-drop (i - at) at b) in
+            sym (l .rest ∙ rw u (sameBytes-self (drop i b)))

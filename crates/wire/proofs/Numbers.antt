@@ -29,6 +29,10 @@ unfolding le num AreBytes
 le-num [] h = refl
 le-num (b ∷ s) h = rw (low b (num s) (h .0), high b (num s) (h .0), le-num s (h .1))
 
+-- as many bytes that hold the same number are the same
+pub num-same : (s t : Bytes) → AreBytes s → AreBytes t → length s ≡ length t → num s ≡ num t → s ≡ t
+num-same s t h g l e = sym (le-num s h) ∙ ap₂ le l e ∙ le-num t g
+
 -- a number that fits in w bytes is read again from them
 pub num-le : (w n : ℕ) → n < 256 ^ w → num (le w n) ≡ n
 unfolding le num

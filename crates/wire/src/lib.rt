@@ -1,8 +1,8 @@
 // Bytes as numbers, comparing bytes, and a part of a slice.
 ghost use mathlib.Core.Path.{_≡_};
-ghost use Prim.Native.Nat.{_<_, _^_};
+ghost use Prim.Native.Nat.{_+_, _<_, _≤_, _^_};
 ghost use lib.ListN.{take, drop};
-ghost use Rattle.wire.specs.Numbers.{sameBytes};
+ghost use Rattle.wire.specs.Numbers.{num, sameBytes};
 
 // A byte as a number.
 pub fn wide(b: u8) -> usize
@@ -11,13 +11,27 @@ pub fn wide(b: u8) -> usize
     b as usize
 }
 
-// Whether two slices hold the same bytes. Lengths come first: most names that differ do so there.
-pub fn same(a: &[u8], b: &[u8]) -> bool
+// Four bytes of s as a number, the lowest first.
+fn four(s: &[u8], at: usize) -> usize
+    requires { do ⌜ at + 4 ≤ (← ⟦s.len()⟧) ⌝ }
+    ensures { λ r. ⌜ (r ≡ num (take 4 (drop at (now (s .entry))))) × (r < 2 ^ 32) ⌝ }
+{
+    wide(s[at]) + 256 * wide(s[at + 1]) + 65536 * wide(s[at + 2]) + 16777216 * wide(s[at + 3])
+}
+
+// Eight bytes of s so. They are read at once: the compiler makes one load of the sum.
+fn eight(s: &[u8], at: usize) -> usize
+    requires { do ⌜ at + 8 ≤ (← ⟦s.len()⟧) ⌝ }
+    ensures { λ r. ⌜ r ≡ num (take 8 (drop at (now (s .entry)))) ⌝ }
+{
+    four(s, at) + 4294967296 * four(s, at + 4)
+}
+
+// Whether two slices of one length hold the same bytes, byte by byte.
+fn same_few(a: &[u8], b: &[u8]) -> bool
+    requires { do ⌜ (← ⟦a.len()⟧) ≡ (← ⟦b.len()⟧) ⌝ }
     ensures { λ r. ⌜ r ≡ sameBytes (now (a .entry)) (now (b .entry)) ⌝ }
 {
-    if a.len() != b.len() {
-        return false;
-    }
     let mut i = 0;
     while i < a.len() {
         if a[i] != b[i] {
@@ -26,6 +40,29 @@ pub fn same(a: &[u8], b: &[u8]) -> bool
         i += 1;
     }
     true
+}
+
+// Whether two slices hold the same bytes. Lengths come first: most names that differ do so there. Then eight bytes are compared at a time,
+// and the last eight, of which some may have been compared before.
+pub fn same(a: &[u8], b: &[u8]) -> bool
+    ensures { λ r. ⌜ r ≡ sameBytes (now (a .entry)) (now (b .entry)) ⌝ }
+{
+    let n = a.len();
+    if n != b.len() {
+        return false;
+    }
+    if n < 8 {
+        return same_few(a, b);
+    }
+    let last = n - 8;
+    let mut at = 0;
+    while at < last {
+        if eight(a, at) != eight(b, at) {
+            return false;
+        }
+        at += 8;
+    }
+    eight(a, last) == eight(b, last)
 }
 
 // The part of s of this length from a place on, as far as s reaches.

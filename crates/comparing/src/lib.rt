@@ -1,22 +1,48 @@
 // When two names are the same and when two bases are: asked here alone. And numbers that are the same where these are, to look them up by.
 use operation::Shortening;
 ghost use mathlib.Core.Path.{_≡_};
+ghost use mathlib.Core.List.{[], _∷_};
 ghost use Prim.Native.Nat.{_<_, _^_};
+ghost use lib.ListN.{drop};
 ghost use Rattle.operation.specs.Operations.{operationOf, samePaths};
 ghost use Rattle.prefix.specs.Prefix.{scope};
 ghost use Rattle.comparing.specs.Compares.{hashFrom, hash as Compares·hash, baseWord, baseAt, sameBase};
 
-// A number under 65536 made of bytes.
-fn hash_bytes(s: &[u8]) -> usize
-    ensures { λ r. ⌜ (r ≡ hashFrom 0 (now (s .entry))) × (r < 65536) ⌝ }
+// The number made of the bytes from a place on, from a number on.
+fn hash_rest(s: &[u8], from: usize, start: usize) -> usize
+    requires { ⌜ start < 65536 ⌝ }
+    ensures { λ r. ⌜ (r ≡ hashFrom start (drop from (now (s .entry)))) × (r < 65536) ⌝ }
 {
-    let mut h: usize = 0;
-    let mut i = 0;
+    let mut h = start;
+    let mut i = from;
     while i < s.len() {
         h = (h * 31 + wire::wide(s[i])) % 65536;
         i += 1;
     }
     h
+}
+
+// The same for four bytes in one step: 31, 961, 29791 and 923521 are the powers of 31.
+fn hash_four(start: usize, a: u8, b: u8, c: u8, d: u8) -> usize
+    requires { ⌜ start < 65536 ⌝ }
+    ensures { λ r. ⌜ (r ≡ hashFrom start (a ∷ b ∷ c ∷ d ∷ [])) × (r < 65536) ⌝ }
+{
+    (start * 923521
+        + (29791 * (a as usize) + 961 * (b as usize) + 31 * (c as usize) + (d as usize)))
+        % 65536
+}
+
+// A number under 65536 made of bytes, four a turn.
+fn hash_bytes(s: &[u8]) -> usize
+    ensures { λ r. ⌜ (r ≡ hashFrom 0 (now (s .entry))) × (r < 65536) ⌝ }
+{
+    let mut h: usize = 0;
+    let mut i = 0;
+    while 4 <= s.len() - i {
+        h = hash_four(h, s[i], s[i + 1], s[i + 2], s[i + 3]);
+        i += 4;
+    }
+    hash_rest(s, i, h)
 }
 
 // The same for names that are the same.

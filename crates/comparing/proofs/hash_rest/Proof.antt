@@ -1,0 +1,69 @@
+-- `comparing::hash_rest` meets its contract: what is left of the bytes has the hash of all from the place on. Assumes nothing.
+use mathlib.Core.Path.{_≡_, refl}
+use Prim.Native.Nat.{_<_, _-_}
+use native.Mathlib.Omega.{arith}
+use lib.ListN.{length, drop}
+use borrow.Author.Needs.{needs}
+use Rattle.comparing.specs.Compares.{hashFrom}
+use Rattle.comparing.proofs.Hashes.{hash-none, hash-next, hash-below}
+use Rattle.comparing.proofs.hash_rest.Statement.{statement}
+use Rattle.comparing.proofs.hash_rest.Tie as tie
+use Rattle.comparing.proofs.hash_rest.Reads as reads
+use Rattle.comparing.proofs.hash_rest.Lts as lts
+use Rattle.wire.proofs.wide.Reads as wide-reads
+
+abbrev Inv-loop : tie.InvT-loop
+Inv-loop s from start h₀ i₀ h i = (h < 65536) × (hashFrom start (drop from s) ≡ hashFrom h (drop i s))
+
+abbrev μ-loop : tie.MeasureT-loop
+μ-loop s from start h₀ i₀ h i = length s - i
+
+loop-holds : tie.Need-loop-holds Inv-loop μ-loop
+loop-holds c = (omega arith, refl)
+
+mul-h : tie.Need-mul-h Inv-loop μ-loop
+mul-h c = search needs
+
+shared-slice-read-wide : tie.Need-shared-slice-read-wide Inv-loop μ-loop
+shared-slice-read-wide c = search needs
+
+wide-requires : tie.Need-wide-requires Inv-loop μ-loop
+wide-requires c κs = search needs
+
+add-h : tie.Need-add-h Inv-loop μ-loop
+add-h c = search needs
+
+add-i : tie.Need-add-i Inv-loop μ-loop
+add-i c = search needs
+
+loop-less : tie.Need-loop-less Inv-loop μ-loop
+loop-less c = search needs
+
+loop-again : tie.Need-loop-again Inv-loop μ-loop
+loop-again c =
+    let loop-test = c .before .before .loop-test in
+    let wide = c .wide in
+    let loop = c .before .before .before .loop in
+    (hash-below _ _, hash-next _ _ _ _ _ _ (loop-test .taken) refl (wide .ensures .0) (loop .inv .1))
+
+returns : tie.Need-returns Inv-loop μ-loop
+returns c =
+    let loop-test = c .loop-test in
+    let loop = c .before .loop in
+    (hash-none _ _ _ _ (loop-test .left) (loop .inv .1), loop .inv .0)
+
+pub hash-rest-spec : {M : Type 1} → statement M
+hash-rest-spec =
+    tie.close
+    (tie.spec
+    Inv-loop
+    μ-loop
+    loop-holds
+    mul-h
+    shared-slice-read-wide
+    wide-requires
+    add-h
+    add-i
+    loop-less
+    loop-again
+    returns)

@@ -38,7 +38,7 @@ step x y = sym (ap (λ (n : ℕ). n % 65536) e ∙ add-mul-mod-self-left ((x % 6
     e : x * 31 + y ≡ ((x % 65536) * 31 + y) + 65536 * (x / 65536 * 31)
     e = omega arith
 
-pub hash-four : (h a b c d : ℕ) → (h * 923521 + (29791 * a + 961 * b + 31 * c + d)) % 65536 ≡ hashFrom h (a ∷ b ∷ c ∷ d ∷ [])
+pub hash-four : (h a b c d : ℕ) → (h * 923521 + (((a * 31 + b) * 31 + c) * 31 + d)) % 65536 ≡ hashFrom h (a ∷ b ∷ c ∷ d ∷ [])
 unfolding hashFrom
 hash-four h a b c d =
     rw (step (h * 31 + a) b, step ((h * 31 + a) * 31 + b) c, step (((h * 31 + a) * 31 + b) * 31 + c) d) (ap (λ (n : ℕ). n % 65536) (omega arith))

@@ -22,14 +22,13 @@ fn hash_rest(s: &[u8], from: usize, start: usize) -> usize
     h
 }
 
-// The same for four bytes in one step: 31, 961, 29791 and 923521 are the powers of 31.
+// The same for four bytes in one step: 923521 is the fourth power of 31.
 fn hash_four(start: usize, a: u8, b: u8, c: u8, d: u8) -> usize
     requires { ⌜ start < 65536 ⌝ }
     ensures { λ r. ⌜ (r ≡ hashFrom start (a ∷ b ∷ c ∷ d ∷ [])) × (r < 65536) ⌝ }
 {
-    (start * 923521
-        + (29791 * (a as usize) + 961 * (b as usize) + 31 * (c as usize) + (d as usize)))
-        % 65536
+    let four = (((a as usize) * 31 + (b as usize)) * 31 + (c as usize)) * 31 + (d as usize);
+    (start * 923521 + four) % 65536
 }
 
 // A number under 65536 made of bytes, four a turn.

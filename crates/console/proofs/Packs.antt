@@ -9,7 +9,7 @@ use Rattle.wire.specs.Numbers.{Bytes}
 use Rattle.wire.proofs.Numbers.{are-bytes}
 use Rattle.outcome.specs.Outcome.{Outcome}
 use Rattle.shortening.specs.Shortened.{outcome, Promise}
-use Rattle.console.proofs.Plain.{answer-plain}
+use Rattle.console.proofs.Plain.{value-small, answer-plain}
 use Rattle.console.specs.Packed.{called, PackedPromise}
 
 pub packs : (card root out : Bytes) (words : List ℕ) (a : Answer) (out′ : Bytes) (words′ : List ℕ) (r : ℕ) → words ≡ replicate 2048 0
@@ -17,6 +17,7 @@ pub packs : (card root out : Bytes) (words : List ℕ) (a : Answer) (out′ : By
 packs card root out words a out′ words′ r z b p e =
     record {
       answer-is = e ∙ ap packed (ap (λ (o : Outcome). o .answer) same) ∙ answer-plain card root out (replicate 2048 0) (are-bytes card b);
+      whole = value-small card root out (replicate 2048 0) (are-bytes card b);
       out-is = ap (λ (o : Outcome). o .out) same;
       names = λ n h. p .names n (ap (λ (o : Outcome). o .answer) same ∙ h);
     }

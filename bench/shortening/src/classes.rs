@@ -68,6 +68,20 @@ pub fn nested_modules(count: usize) -> Vec<u8> {
     module("m", &names.iter().enumerate().flat_map(declarations).collect::<Vec<_>>())
 }
 
+/// A module that leaves room for few pairs more, and nested modules with as many bytes as that and more, each followed by
+/// a declaration with a path under the parent's prefix: nothing fits beside the parent's table.
+pub fn crowded() -> Vec<u8> {
+    let mut draws = Draws(6);
+    let own = draws.names(511 - 40, 3);
+    let inner = draws.names(40, 4);
+    let mut body: Vec<Bytes> = own.iter().map(|name| nested(extern_module(name))).collect();
+    for (i, name) in inner.iter().enumerate() {
+        body.push(nested(module(name, &[implementation(&[], ty("::Cue"), &[])])));
+        body.push(implementation(&[], ty(&format!("crate::m::{}", own[i])), &[]));
+    }
+    module("m", &body)
+}
+
 /// A function with so many formals, each a path type with as many types around it as may be.
 pub fn deep_types(formals: usize) -> Vec<u8> {
     let mut draws = Draws(5);

@@ -170,6 +170,7 @@ fn of_classes() -> Vec<Class> {
     list.extend([8, 32, 128, 512].map(|n| one(&format!("{n} pairs"), classes::pairs(n))));
     list.push(one("one name", classes::one_name(512)));
     list.push(one("nested", classes::nested_modules(200)));
+    list.push(one("crowded", classes::crowded()));
     list.push(one("deep types", classes::deep_types(50)));
     list
 }

@@ -103,7 +103,7 @@ fn full_tables() {
 #[test]
 fn classes() {
     use crate::classes::*;
-    let cards = [least(), small(), one_name(512), nested_modules(200), deep_types(50)];
+    let cards = [least(), small(), one_name(512), nested_modules(200), crowded(), deep_types(50)];
     let sized = [1, 4, 16, 32].map(|k| typical(k << 10));
     for card in cards.iter().chain(&sized).chain(&[8, 32, 128, 512].map(pairs)) {
         assert!(answer(card, 65536, WORDS).is_ok());
@@ -112,6 +112,7 @@ fn classes() {
     let count = |card: &[u8]| tree::outermost(card, &root, WORDS).map(|mapping| mapping.pairs.len());
     assert_eq!([8, 32, 128, 512].map(|n| count(&pairs(n))), [8, 32, 128, 512].map(Ok));
     assert_eq!(count(&one_name(512)), Ok(512));
+    assert_eq!(count(&crowded()), Ok(511));
 }
 
 /// Each synonym taken as its display.

@@ -32,7 +32,9 @@ fn used(card: &[u8], out: &mut [u8]) -> usize {
     }
     let answer = console::shorten(black_box(card), &[2, 0, 0, 0, 0x11, 0], out);
     black_box(answer).expect("a card that is accepted");
-    let kept = (0..PAINTED).take_while(|i| unsafe { std::ptr::read_volatile((area + i) as *const u8) } == PAINT).count();
+    let kept = (0..PAINTED)
+        .take_while(|i| unsafe { std::ptr::read_volatile((area + i) as *const u8) } == PAINT)
+        .count();
     PAINTED - kept + 4096
 }
 

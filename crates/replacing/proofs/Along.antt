@@ -5,7 +5,7 @@ use mathlib.Core.List.{[], _∷_, _++_, append-nil, append-assoc}
 use Prim.Native.Nat.{ℕ, _+_, _^_, _<_, _≤_}
 use native.Mathlib.Omega.{arith}
 use lib.ListN.{length, take, drop, length-append, length-take, length-drop}
-use lib.Seq.{take-all, drop-drop}
+use lib.Seq.{drop-drop}
 use Rattle.wire.specs.Numbers.{Bytes}
 use Rattle.records.specs.Record.{lengthOf, firstRecord, restOf}
 use Rattle.records.specs.Reading.{short}
@@ -14,10 +14,6 @@ use Rattle.laying.specs.Lays.{lay, Laid}
 use Rattle.laying.proofs.Laws.{lay-length, laid-none, laid-then}
 use Rattle.rewriting.specs.Rewrites.{partsOf, each}
 use Rattle.rewriting.proofs.Parts.{parts-none, parts-step}
-
--- bytes from a place on, taken as far as they reach
-pub part-rest : (c s : Bytes) (i : ℕ) → s ≡ take (length c) (drop i c) → s ≡ drop i c
-part-rest c s i e = e ∙ take-all (length c) (drop i c) (omega (arith, length-drop i c))
 
 -- of what f makes of each record of c, that of those ahead of place i is laid over out₀ and ends at p
 pub record Along (f : Bytes → Bytes) (c out₀ : Bytes) (at : ℕ) (out : Bytes) (i p : ℕ) : Type 0 where

@@ -101,7 +101,8 @@ same-length-10 c = search needs
 
 returns-5 : tie.Need-returns-5
 returns-5 c =
-    let args = c .before .before .before .before .before .before .before .before .before .before .before .before .before .before .before .before .before .before .before .before .before .before .before .before .args in
+    let args = c .before .before .before .before .before .before .before .before .before .before .before .before .before .before .before .before
+    .before .before .before .before .before .before .before .before .args in
     let surely-fits = c .before .before .before .before .before .before .before .before .before .before .before .before .before .before .before .before .before .surely-fits in
     let if1 = c .before .before .before .before .before .before .before .before .before .before .before .before .before .before .before .before .if1 in
     let write-card2 = c .before .before .before .before .before .before .before .before .before .before .before .before .before .write-card2 in

@@ -5,10 +5,11 @@ use native.Mathlib.Omega.{arith}
 use lib.Dec.{lit<}
 use lib.ListN.{length}
 use borrow.Author.Needs.{needs}
+use Rattle.wire.proofs.Slices.{tail-part}
 use Rattle.records.specs.Record.{restOf}
 use Rattle.prefix.specs.Prefix.{scope}
 use Rattle.rewriting.specs.Rewrites.{rewrite}
-use Rattle.replacing.proofs.Along.{Along, part-rest, along-none, along-long, along-stop, along-end, along-inside, along-room, along-small, along-next}
+use Rattle.replacing.proofs.Along.{Along, along-none, along-long, along-stop, along-end, along-inside, along-room, along-small, along-next}
 use Rattle.replacing.proofs.Ring.{step-type, step-expr, type-asks, type-gives, path-type-gives, expr-asks, expr-gives, path-expr-gives}
 use Rattle.replacing.proofs.Ring.{no-depth-gives, no-depth-fits, less-asks, less-gives, fn-asks}
 use Rattle.replacing.proofs.Ring.{fn-gives, left-gives, left-fits, holds-asks, holds-gives}
@@ -466,7 +467,7 @@ replace-parts-returns t c =
     parts-gives (scope (args .op) (args .card .now) (args .root .now) (args .chain .now)) (args .work .now) (args .again) (args .w) (args .c .now) (args .left)
     (args .at) (args .out .now) _ _ (along-stop (rewrite (scope (args .op) (args .card .now) (args .root .now) (args .chain .now)) (args .work .now)
     (args .left) (args .again) (args .w)) (args .c .now) (args .out .now) (args .at) _ (loop .i) (loop .p) (loop .inv .0) _
-    (part-rest (args .c .now) _ (loop .i) (part .ensures)) (sym (is-short .ensures) ∙ if1 .taken))
+    (tail-part (args .c .now) _ (loop .i) (part .ensures)) (sym (is-short .ensures) ∙ if1 .taken))
 
 replace-parts-record-length-requires : (t : ℕ) → replace-parts-lts.Need-record-length-requires (replace-parts-calls t) (replace-parts-at t) replace-parts.Post
     replace-parts-Inv-loop replace-parts-μ-loop
@@ -497,10 +498,10 @@ replace-parts-replace-record-requires t c κs =
       parts-asks (scope (args .op) (args .card .now) (args .root .now) (args .chain .now)) (args .work .now) (args .again) (args .w)
           (args .c .now) (args .left) (args .at) (pre .1) _ _ (along-room (rewrite (scope (args .op) (args .card .now) (args .root .now) (args .chain .now))
           (args .work .now) (args .left) (args .again) (args .w)) (args .c .now) (args .out .now) (args .at) _ (loop .i) (loop .p) (loop .inv .0) _
-          (part-rest (args .c .now) _ (loop .i) (part .ensures)) (sym (is-short .ensures) ∙ if1 .left) _ (ap (λ (x : ℕ). 4 + x) (record-length .ensures .0)) _
+          (tail-part (args .c .now) _ (loop .i) (part .ensures)) (sym (is-short .ensures) ∙ if1 .left) _ (ap (λ (x : ℕ). 4 + x) (record-length .ensures .0)) _
           (part2 .ensures)) (along-small (rewrite (scope (args .op) (args .card .now) (args .root .now) (args .chain .now)) (args .work .now) (args .left)
           (args .again) (args .w)) (args .c .now) (args .out .now) (args .at) _ (loop .i) (loop .p) (loop .inv .0) _
-          (part-rest (args .c .now) _ (loop .i) (part .ensures)) (sym (is-short .ensures) ∙ if1 .left) _ (ap (λ (x : ℕ). 4 + x) (record-length .ensures .0)) _
+          (tail-part (args .c .now) _ (loop .i) (part .ensures)) (sym (is-short .ensures) ∙ if1 .left) _ (ap (λ (x : ℕ). 4 + x) (record-length .ensures .0)) _
           (part2 .ensures)),
     )
 
@@ -521,7 +522,7 @@ replace-parts-add-i t c =
       pre .1 .small,
       along-inside (rewrite (scope (args .op) (args .card .now) (args .root .now) (args .chain .now)) (args .work .now) (args .left)
           (args .again) (args .w)) (args .c .now) (args .out .now) (args .at) _ (loop .i) (loop .p) (loop .inv .0) _
-          (part-rest (args .c .now) _ (loop .i) (part .ensures)) (sym (is-short .ensures) ∙ if1 .left) _ (ap (λ (x : ℕ). 4 + x) (record-length .ensures .0)) _
+          (tail-part (args .c .now) _ (loop .i) (part .ensures)) (sym (is-short .ensures) ∙ if1 .left) _ (ap (λ (x : ℕ). 4 + x) (record-length .ensures .0)) _
           (part2 .ensures),
     )
 
@@ -544,7 +545,7 @@ replace-parts-loop-again t c =
     let part2 = c .before .before .before .before .part2 in
     let replace-record = c .before .before .replace-record in (
       along-next (rewrite (scope (args .op) (args .card .now) (args .root .now) (args .chain .now)) (args .work .now) (args .left) (args .again) (args .w))
-          (args .c .now) (args .out .now) (args .at) _ (loop .i) (loop .p) (loop .inv .0) _ (part-rest (args .c .now) _ (loop .i) (part .ensures))
+          (args .c .now) (args .out .now) (args .at) _ (loop .i) (loop .p) (loop .inv .0) _ (tail-part (args .c .now) _ (loop .i) (part .ensures))
           (sym (is-short .ensures) ∙ if1 .left) _ (ap (λ (x : ℕ). 4 + x) (record-length .ensures .0)) _ (part2 .ensures) _ _ (replace-record .ensures),
       omega (
         arith,
@@ -552,7 +553,7 @@ replace-parts-loop-again t c =
         along-long (rewrite (scope (args .op) (args .card .now) (args .root .now) (args .chain .now)) (args .work .now) (args .left)
             (args .again) (args .w)) (args .c .now) (args .out .now) (args .at) _ _ _ (along-next (rewrite
             (scope (args .op) (args .card .now) (args .root .now) (args .chain .now)) (args .work .now) (args .left) (args .again) (args .w)) (args .c .now)
-            (args .out .now) (args .at) _ (loop .i) (loop .p) (loop .inv .0) _ (part-rest (args .c .now) _ (loop .i) (part .ensures))
+            (args .out .now) (args .at) _ (loop .i) (loop .p) (loop .inv .0) _ (tail-part (args .c .now) _ (loop .i) (part .ensures))
             (sym (is-short .ensures) ∙ if1 .left) _ (ap (λ (x : ℕ). 4 + x) (record-length .ensures .0)) _ (part2 .ensures) _ _ (replace-record .ensures)),
       ),
     )

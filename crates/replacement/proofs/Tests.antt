@@ -12,7 +12,8 @@ use Rattle.records.specs.Record.{kindOf, contentOf, restOf, firstRecord}
 use Rattle.factor_paths.specs.PathsVisitor.{marked, unmarked}
 use Rattle.operation.specs.Operations.{samePaths}
 use Rattle.prefix.specs.Prefix.{Scope}
-use Rattle.comparing.specs.Compares.{baseAt}
+use Rattle.comparing.specs.Compares.{placeIn, baseAt}
+use Rattle.chains.specs.Chains.{wordAt}
 use Rattle.choosing.specs.Chooses.{chosenPair}
 use Rattle.rewriting.specs.Replaces.{nameIn, baseIn, replaces, replacesType, replacesExpr}
 
@@ -29,10 +30,14 @@ module _ (s : Scope) (words : List ℕ) where
     unfolding replaces
     replaces-none z = rw (← e, eq-eqb g 0 z)
 
-    pub replaces-pair : (g ≡ 0 → ⊥) → (w : ℕ) → w ≡ getD words (4 * (g - 1) + 2) 0 → (r : Bool) → r ≡ samePaths (s .op) (baseAt s (w % 65536)) base
-        → r ≡ replaces s words name base
+    pub replaces-base : (g ≡ 0 → ⊥) → (r : Bool) → r ≡ samePaths (s .op) (baseAt s (placeIn (wordAt words (g - 1)))) base → r ≡ replaces s words name base
     unfolding replaces
-    replaces-pair z w f r h = h ∙ rw (f, ← e, ne-eqb g 0 z)
+    replaces-base z r h = h ∙ rw (← e, ne-eqb g 0 z)
+
+  -- a pair's base, by its word
+  pub base-word-is : (base : Bytes) (i w : ℕ) → w ≡ getD words (4 * i + 2) 0 → (r : Bool) → r ≡ samePaths (s .op) (baseAt s (w % 65536)) base
+      → r ≡ samePaths (s .op) (baseAt s (placeIn (wordAt words i))) base
+  base-word-is base i w f r h = h ∙ rw f
 
   module _ (r c : Bytes) (k : ℕ) (e : c ≡ contentOf r) (f : k ≡ kindOf c) where
     kind-is : kindOf (contentOf r) ≡ k

@@ -1,10 +1,33 @@
 // Whether a path is replaced: whether the base chosen for its name, by the module's table, is its own.
+use chains::Want;
 use operation::Shortening;
 ghost use mathlib.Core.Path.{_≡_};
+ghost use Prim.Native.Nat.{_-_, _<_, _≤_};
+ghost use Rattle.operation.specs.Operations.{samePaths};
 ghost use Rattle.prefix.specs.Prefix.{scope};
+ghost use Rattle.comparing.specs.Compares.{placeIn, baseAt};
+ghost use Rattle.chains.specs.Chains.{room, wordAt};
 ghost use Rattle.rewriting.specs.Replaces.{nameIn, baseIn, replaces as Replaces·replaces, replacesType, replacesExpr};
 
-// id in replacement && replacement[id] == base
+// Whether pair g has this base.
+fn has_base(
+    op: Shortening,
+    card: &[u8],
+    root: &[u8],
+    chain: &[usize],
+    work: &[u32],
+    g: usize,
+    base: &[u8],
+) -> bool
+    requires { ⌜ (0 < g) × (g ≤ room (now work)) ⌝ }
+    ensures { λ r. ⌜ r ≡ samePaths op (baseAt (scope op (now (card .entry)) (now (root .entry)) (now (chain .entry))) (placeIn (wordAt (now (work .entry)) (g - 1))))
+        (now (base .entry)) ⌝ }
+{
+    let m = 4 * (g - 1) + 2;
+    comparing::is_base(op, card, root, chain, wire::word(work[m]) % 65536, base)
+}
+
+// id in replacement && replacement[id] == base. Where a name has several bases, only the prefix or ::dafny_runtime is chosen: no other base is looked for.
 fn replaces(
     op: Shortening,
     card: &[u8],
@@ -17,12 +40,26 @@ fn replaces(
     ensures { λ r. ⌜ r ≡ Replaces·replaces (scope op (now (card .entry)) (now (root .entry)) (now (chain .entry)))
         (now (work .entry)) (now (name .entry)) (now (base .entry)) ⌝ }
 {
+    let first = chains::head(work, chains::bucket(op, work, name));
+    let one = chains::seek(op, card, root, chain, work, first, name, Want::Named);
+    if one == 0 {
+        return false;
+    }
+    let after = chains::next(work, one);
+    let two = chains::seek(op, card, root, chain, work, after, name, Want::Named);
+    if two == 0 {
+        return has_base(op, card, root, chain, work, one, base);
+    }
+    if !prefix::is_prefix(op, base, card, root, chain) {
+        if !paths::is_runtime(base) {
+            return false;
+        }
+    }
     let g = choosing::chosen(op, card, root, chain, work, name);
     if g == 0 {
         return false;
     }
-    let m = 4 * (g - 1) + 2;
-    comparing::is_base(op, card, root, chain, wire::word(work[m]) % 65536, base)
+    has_base(op, card, root, chain, work, g, base)
 }
 
 // The name that the path of a TypeFromPath or an ExprFromPath ends in.

@@ -272,8 +272,7 @@ impl<'a> Read<'a> for Documented<'a> {
     }
 }
 
-/// Datatypes with one constructor: its kind and its fields, in their order.
-macro_rules! records {
+macro_rules! read_each {
     ($($name:ident $kind:literal { $($field:ident),* })*) => {$(
         impl<'a> Read<'a> for $name<'a> {
             fn read(records: &mut Records<'a>) -> Reading<Self> {
@@ -286,20 +285,4 @@ macro_rules! records {
     )*};
 }
 
-records! {
-    Struct 0x70 { about, name, params, fields }
-    TypeSynonym 0x71 { about, name, params, tpe }
-    Constant 0x72 { about, name, tpe, value }
-    Enum 0x73 { about, name, params, variants }
-    EnumCase 0x74 { doc, name, fields }
-    Field 0x77 { visibility, formal }
-    NamelessField 0x78 { visibility, tpe }
-    Trait 0x7B { about, params, tpe, parents, body }
-    TopFn 0x7C { about, visibility, function }
-    Function 0x7D { name, params, formals, result, body }
-    Formal 0x7E { name, tpe }
-    TypeParam 0x7F { name, constraints }
-    Use 0x80 { visibility, path }
-    MatchCase 0x81 { pattern, rhs }
-    AssignIdentifier 0x82 { identifier, rhs }
-}
+one_constructor!(read_each);

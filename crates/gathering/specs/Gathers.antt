@@ -1,6 +1,5 @@
 -- Collecting over the bytes of a card, whatever they are and over any accumulator: proofs/Trees shows that over a sound card it is the one walk of the
 -- visitor. Assumes nothing: these are definitions.
-use mathlib.Core.Path.{_≡_}
 use mathlib.Core.Bool.{true, false, cond}
 use mathlib.Core.List.{List, [], _∷_}
 use Prim.Native.Nat.{ℕ, zero, suc, _+_, _-_}
@@ -57,10 +56,7 @@ module _ {T : Type 0} (add : T → (at len base : ℕ) → T) (card : Bytes) whe
       let from : ℕ = r .from + 6 in
       cond (isLeaf k) t (gatherEach (gather left) k 0 (gatherSelf k t from (r .to)) (spansIn card from (r .to)))
 
-  -- field i of a record of kind k, all that are in its content, and these after the record itself
-  unfoldable pub gatherField : ℕ → ℕ → ℕ → T → Span → T
-  gatherField left k i t r = cond (enters k i) (gather left t r) t
-
+  -- the fields in the content of a record of kind k, and these after the record itself
   unfoldable pub gatherParts : ℕ → ℕ → T → (from to : ℕ) → T
   gatherParts left k t from to = gatherEach (gather left) k 0 t (spansIn card from to)
 
@@ -73,18 +69,8 @@ module _ {T : Type 0} (add : T → (at len base : ℕ) → T) (card : Bytes) whe
       let s : Bytes = drop at card in
       cond (ltb 65536 (length card)) t (cond (short s) t (gather left t (span at (at + 4 + lengthOf s))))
 
--- k is the kind of the record between two places, and that is no Text and no Kept
-abbrev pub IsNode : Bytes → (from to k : ℕ) → Type 0
-IsNode card from to k = (k ≡ kindOf (between card from to)) × (isLeaf k ≡ false)
-
 -- into a table
 module _ (s : Scope) where
-  abbrev pub recordAdded : ℕ → Table → (from to : ℕ) → Table
-  recordAdded left t from to = gather (added s) (s .card) left t (span from to)
-
-  abbrev pub fieldAdded : ℕ → ℕ → ℕ → Table → (from to : ℕ) → Table
-  fieldAdded left k i t from to = gatherField (added s) (s .card) left k i t (span from to)
-
   abbrev pub partsAdded : ℕ → ℕ → Table → (from to : ℕ) → Table
   partsAdded = gatherParts (added s) (s .card)
 

@@ -6,10 +6,10 @@ use mathlib.Core.List.{List, [], _∷_}
 use Prim.Native.Nat.{ℕ, zero, suc, _+_, _-_, _*_, _^_, _<_, _≤_}
 use native.Mathlib.Omega.{arith}
 use native.Mathlib.Numerals.{add-one}
-use lib.ListN.{take, drop}
+use lib.ListN.{drop}
 use lib.Dec.{leb}
 use borrow.Author.Tests.{eq-eqb, ne-eqb, lt-leb, leb-true}
-use Rattle.wire.specs.Numbers.{Bytes, between, num}
+use Rattle.wire.specs.Numbers.{Bytes, between}
 use Rattle.wire.proofs.Less.{at-least-one}
 use Rattle.records.specs.Record.{isLeaf, lengthOf, kindOf}
 use Rattle.records.specs.Kinds.{stands, kinds}
@@ -18,7 +18,7 @@ use Rattle.factor_paths.specs.Collects.{Visited, aType, anExpr, aDecl, holds, v
 use Rattle.prefix.specs.Prefix.{Scope}
 use Rattle.adding.specs.Adds.{Table, added}
 use Rattle.visiting.specs.Visits.{visitPath, visitName}
-use Rattle.gathering.proofs.Spans.{span-fits, none-short, none-in, first-in}
+use Rattle.gathering.proofs.Spans.{kind-front, span-fits, none-short, none-in, first-in}
 use Rattle.gathering.specs.Gathers.{Span, span, spansIn, gatherEach, gatherAs, gatherSelf, gather, gatherParts, gatherWhole}
 use Rattle.gathering.specs.Gathers.{partsAdded, wholeAdded}
 
@@ -36,19 +36,6 @@ no-depth : {T : Type 0} (add : T → (at len base : ℕ) → T) (card : Bytes) (
 unfolding gatherEach gather
 no-depth add card j i t [] = refl
 no-depth add card j i t (r ∷ rs) = rw (either (enters j i) t) (no-depth add card j (suc i) t rs)
-
--- a record's kind is that of its first six bytes
-six : (x : Bytes) (m : ℕ) → take 2 (drop 4 (take (suc (suc (suc (suc (suc (suc m)))))) x)) ≡ take 2 (drop 4 x)
-six [] m = refl
-six (a ∷ []) m = refl
-six (a ∷ b ∷ []) m = refl
-six (a ∷ b ∷ c ∷ []) m = refl
-six (a ∷ b ∷ c ∷ d ∷ []) m = refl
-six (a ∷ b ∷ c ∷ d ∷ e ∷ []) m = refl
-six (a ∷ b ∷ c ∷ d ∷ e ∷ f ∷ r) m = refl
-
-kind-front : (x : Bytes) (m : ℕ) → 6 ≤ m → kindOf (take m x) ≡ kindOf x
-kind-front x m h = let q : m ≡ suc (suc (suc (suc (suc (suc (m - 6)))))) = omega arith in rw q (ap num (six x (m - 6)))
 
 -- a record that is passed, and one that is not
 neither : (a b : Bool) → (a || not b) ≡ false → (a ≡ false) × (b ≡ true)

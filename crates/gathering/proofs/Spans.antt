@@ -5,12 +5,25 @@ use mathlib.Core.List.{List, [], _∷_}
 use Prim.Native.Nat.{ℕ, zero, suc, _+_, _-_, _<_, _≤_}
 use native.Mathlib.Omega.{arith}
 use lib.ListN.{length, take, drop, length-take, length-drop}
-use Rattle.wire.specs.Numbers.{Bytes, between}
-use Rattle.records.specs.Record.{lengthOf}
+use Rattle.wire.specs.Numbers.{Bytes, between, num}
+use Rattle.records.specs.Record.{lengthOf, kindOf}
 use Rattle.records.specs.Reading.{short}
 use Rattle.records.proofs.Tree.{Enough, long-enough}
 use Rattle.rast.proofs.Tests.{by-test}
 use Rattle.gathering.specs.Gathers.{Span, span, spansUpTo, spansIn}
+
+-- a record's kind is that of its first six bytes
+six : (x : Bytes) (m : ℕ) → take 2 (drop 4 (take (suc (suc (suc (suc (suc (suc m)))))) x)) ≡ take 2 (drop 4 x)
+six [] m = refl
+six (a ∷ []) m = refl
+six (a ∷ b ∷ []) m = refl
+six (a ∷ b ∷ c ∷ []) m = refl
+six (a ∷ b ∷ c ∷ d ∷ []) m = refl
+six (a ∷ b ∷ c ∷ d ∷ e ∷ []) m = refl
+six (a ∷ b ∷ c ∷ d ∷ e ∷ f ∷ r) m = refl
+
+pub kind-front : (x : Bytes) (m : ℕ) → 6 ≤ m → kindOf (take m x) ≡ kindOf x
+kind-front x m h = let q : m ≡ suc (suc (suc (suc (suc (suc (m - 6)))))) = omega arith in rw q (ap num (six x (m - 6)))
 
 pub between-length : (card : Bytes) (from to : ℕ) → length (between card from to) ≤ to - from
 between-length card from to = let a = length-take (to - from) (drop from card) in omega arith

@@ -1,2 +1,3 @@
-pub mod Sound
 pub mod Tests
+pub mod Roomy
+pub mod Sound

@@ -4,7 +4,7 @@ use mathlib.Core.Path.{_≡_, refl, ap, _∙_}
 use mathlib.Core.Bool.{true, cond, and-eq-true-iff}
 use mathlib.Core.List.{List, [], _++_}
 use mathlib.Core.Option.{Option, none, some}
-use Prim.Native.Nat.{ℕ, suc, _+_, _-_, _*_, _/_, _<_, _≤_}
+use Prim.Native.Nat.{ℕ, suc, _+_, _-_, _*_, _/_, _<_, _≤_, min}
 use native.Mathlib.Omega.{arith}
 use lib.ListN.{length, drop, getD}
 use lib.Dec.{leb, ltb}
@@ -31,9 +31,12 @@ use Rattle.adding.specs.Adds.{Table, table}
 use Rattle.gathering.specs.Gathers.{span}
 use Rattle.laying.proofs.Laws.{lay-whole}
 use Rattle.modules.specs.Modules.{moduleMade, cardMade}
-use Rattle.modules.proofs.Outermost.{Outermost, admitted-reads, outermost-is, outermost-again}
+use Rattle.modules.proofs.Keeps.{table-length}
+use Rattle.modules.proofs.Outermost.{Outermost, Own, admitted-reads, outermost-is, outermost-again, collected-own}
 use Rattle.measuring.specs.declared.Written.the-variants.{Full, Length}
-use Rattle.measuring.specs.Measured.{surelyFits, Output, output, measured, written, direct, inTwo, wholeOutput}
+use Rattle.fitting.specs.Fitting.{surelyFits, isRoomy}
+use Rattle.measuring.specs.Measured.{Output, output, measured, written, direct, inTwo, outermost, collected, wholeOutput}
+use Rattle.measuring.proofs.Roomy.{roomy-none, roomy-fits}
 
 -- each operation's outputs are at most 42 times their cards
 bounded : (op : Shortening) → Bounded (operationOf op)
@@ -41,8 +44,9 @@ bounded Upstream = card-bound
 
 module _ (op : Shortening) (card root : Bytes) (n : ℕ) (sound : admitted (operationOf op) card root n ≡ Sound)
     (bc : (i : ℕ) → getD card i 0 < 256) (br : (i : ℕ) → getD root i 0 < 256) where
-  abbrev pub FullAt : Option ℕ
-  FullAt = fullTable (operationOf op) (operationOf op .mostPairs n) (deep (tree card)) (tree card) (MSel (tree root) (nameOf (tree card))) 0
+  -- the first table with more than so many pairs
+  abbrev pub FullAt : ℕ → Option ℕ
+  FullAt most = fullTable (operationOf op) most (deep (tree card)) (tree card) (MSel (tree root) (nameOf (tree card))) 0
 
   abbrev pub Bytes′ : Bytes
   Bytes′ = encode (apply (operationOf op) (tree root) (tree card))
@@ -57,42 +61,44 @@ module _ (op : Shortening) (card root : Bytes) (n : ℕ) (sound : admitted (oper
   output-bounded : length Bytes′ ≤ 42 * length card
   output-bounded = bounded op (tree root) card (are-bytes card bc) (admitted-sound (operationOf op) card root n sound .card-sound)
 
+  -- no table has more pairs than the card has 18 bytes
+  pub few-full : (most : ℕ) → length card / 18 ≤ most → FullAt most ≡ none
+  few-full most h =
+      let reads = admitted-reads op card root n sound bc br in
+      let long : length (encode (tree card)) ≡ length card = ap length (reads .is-card .encoded) in
+      few-none (operationOf op) most (deep (tree card)) (tree card) (MSel (tree root) (nameOf (tree card))) 0 (reads .is-card .fits)
+      (rw long (let z : length card / 18 ≤ most = omega arith in z))
+
   -- what the out buffer holds after it
-  abbrev pub OutAfter : Bytes → Bytes
-  OutAfter out = whether FullAt (cond (ltb (length out) (length Bytes′)) out (Bytes′ ++ drop (length Bytes′) out)) (λ place. out)
+  abbrev pub OutAfter : ℕ → Bytes → Bytes
+  OutAfter most out = whether (FullAt most) (cond (ltb (length out) (length Bytes′)) out (Bytes′ ++ drop (length Bytes′) out)) (λ place. out)
 
   pub record Result (words : List ℕ) (out : Bytes) (o : Output) : Type 0 where
-    pub answer-is : o .answer ≡ whether FullAt (Length (length Bytes′)) Full
-    pub out-is : o .out ≡ OutAfter out
+    pub answer-is : o .answer ≡ whether (FullAt (room words)) (Length (length Bytes′)) Full
+    pub out-is : o .out ≡ OutAfter (room words) out
     pub words-long : length (o .words) ≡ length words
 
-  module _ (words : List ℕ) (most : room words ≡ operationOf op .mostPairs n) where
-    first : Outermost op card root n (table 0 words) (measured op card root words)
-    unfolding measured
-    first = rw (is-module 65537 (table 0 words)) (outermost-is op card root n sound bc br 65537 (table 0 words) most (λ e. absurd (omega (arith, e))))
+  -- given whose table the words hold
+  module _ (owner : ℕ) (held : Table) (own : owner ≡ 0 → Own card root op held) where
+    abbrev Words : List ℕ
+    Words = held .words
 
-    second : Outermost op card root n (measured op card root words .held) (written op card root words)
+    first : Outermost op card root (room Words) held (measured op card root owner held)
+    unfolding measured
+    first = rw (is-module owner held) (outermost-is op card root n sound bc br owner held own)
+
+    second : Outermost op card root (room Words) (measured op card root owner held .held) (written op card root owner held)
     unfolding written
     second =
-        rw (is-module (measured op card root words .owner) (measured op card root words .held))
-        (outermost-again op card root n sound bc br (table 0 words) most (measured op card root words) first)
+        rw (is-module (measured op card root owner held .owner) (measured op card root owner held .held))
+        (outermost-again op card root n sound bc br held (measured op card root owner held) first)
 
     -- written at once: no table is full, and the output has room
-    at-once : (out : Bytes) → surelyFits card out words ≡ true → Result words out (direct op card root words out)
-    unfolding direct surelyFits
-    at-once out t =
-        let g = and-eq-true-iff (leb (42 * length card) (length out)) (leb (length card / 18) (room words)) .0 t in
-        let few = leb-true (length card / 18) (room words) (g .1) in
-        let wide = leb-true (42 * length card) (length out) (g .0) in
-        let reads = admitted-reads op card root n sound bc br in
-        let long : length (encode (tree card)) ≡ length card = ap length (reads .is-card .encoded) in
-        let e : FullAt ≡ none =
-        few-none (operationOf op) (operationOf op .mostPairs n) (deep (tree card)) (tree card) (MSel (tree root) (nameOf (tree card))) 0 (reads .is-card .fits)
-        (rw long (let z : length card / 18 ≤ operationOf op .mostPairs n = omega arith in z)) in
-        let zero-full : measured op card root words .full ≡ 0 = first .full ∙ ap (λ (x : Option ℕ). whether x 0 suc) e in
+    at-once : (out : Bytes) → FullAt (room Words) ≡ none → length Bytes′ ≤ length out → Result Words out (direct op card root owner held out)
+    unfolding direct
+    at-once out e fits =
+        let zero-full : measured op card root owner held .full ≡ 0 = first .full ∙ ap (λ (x : Option ℕ). whether x 0 suc) e in
         let b = first .bytes e in
-        let bound = output-bounded in
-        let fits : length Bytes′ ≤ length out = omega arith in
         rw (zero-full, b)
         (record {
           answer-is = rw e;
@@ -101,13 +107,13 @@ module _ (op : Shortening) (card root : Bytes) (n : ℕ) (sound : admitted (oper
         })
 
     -- measured first
-    in-two : (out : Bytes) → Result words out (inTwo op card root words out)
+    in-two : (out : Bytes) → Result Words out (inTwo op card root owner held out)
     unfolding inTwo
-    in-two out = go FullAt refl
+    in-two out = go (FullAt (room Words)) refl
       where
-        go : (o : Option ℕ) → FullAt ≡ o → Result words out (inTwo op card root words out)
+        go : (o : Option ℕ) → FullAt (room Words) ≡ o → Result Words out (inTwo op card root owner held out)
         go none e =
-            let zero-full : measured op card root words .full ≡ 0 = first .full ∙ ap (λ (x : Option ℕ). whether x 0 suc) e in
+            let zero-full : measured op card root owner held .full ≡ 0 = first .full ∙ ap (λ (x : Option ℕ). whether x 0 suc) e in
             let b = first .bytes e in
             let b₂ = second .bytes e in
             by-test (ltb (length out) (length Bytes′))
@@ -119,11 +125,42 @@ module _ (op : Shortening) (card root : Bytes) (n : ℕ) (sound : admitted (oper
               words-long = second .long ∙ first .long;
             }))
         go (some place) e =
-            let some-full : measured op card root words .full ≡ suc place = first .full ∙ ap (λ (x : Option ℕ). whether x 0 suc) e in
+            let some-full : measured op card root owner held .full ≡ suc place = first .full ∙ ap (λ (x : Option ℕ). whether x 0 suc) e in
             let less : suc place - 1 ≡ place = omega arith in
             rw (some-full, lt-ltb 0 (suc place) (omega arith), less) (record { answer-is = rw e; out-is = rw e; words-long = first .long })
 
-    -- THE LAW
-    pub whole-sound : (out : Bytes) → Result words out (wholeOutput op card root words out)
-    unfolding wholeOutput
-    whole-sound out = by-test (surelyFits card out words) (λ t. rw t (at-once out t)) (λ t. rw t (in-two out))
+  -- the words of the outermost module's table are as many
+  long-same : (words : List ℕ) → length (collected op card root words .words) ≡ length words
+  unfolding collected
+  long-same words = table-length (outermost op card root) 48 0 65537 (table 0 words)
+
+  as-many : {words words′ : List ℕ} {out : Bytes} {o : Output} → length words′ ≡ length words → Result words′ out o → Result words out o
+  as-many {words} {words′} {out} {o} e r =
+      let m : room words′ ≡ room words = ap (λ (x : ℕ). min (x / 4) 65535) e in
+      record { answer-is = rw m at (r .answer-is); out-is = rw m at (r .out-is); words-long = r .words-long ∙ e }
+
+  -- THE LAW
+  pub whole-sound : (words : List ℕ) (out : Bytes) → Result words out (wholeOutput op card root words out)
+  unfolding wholeOutput
+  whole-sound words out = by-test (surelyFits card out words) (λ t. rw t (sure t)) (λ t. rw t (as-many (long-same words) other))
+    where
+      mine : Own card root op (collected op card root words)
+      mine = unfold collected in collected-own op card root n sound bc br words
+
+      sure : surelyFits card out words ≡ true → Result words out (direct op card root 65537 (table 0 words) out)
+      sure t =
+          let g = and-eq-true-iff (leb (42 * length card) (length out)) (leb (length card / 18) (room words)) .0 (unfold surelyFits in t) in
+          let wide = leb-true (42 * length card) (length out) (g .0) in
+          let bound = output-bounded in
+          at-once 65537 (table 0 words) (λ e. absurd (omega (arith, e))) out (few-full (room words) (leb-true (length card / 18) (room words) (g .1))) (omega
+          arith)
+
+      other : Result (collected op card root words .words) out
+          (cond (isRoomy (outermost op card root) (length out) (collected op card root words)) (direct op card root 0 (collected op card root words) out)
+          (inTwo op card root 0 (collected op card root words) out))
+      other =
+          by-test (isRoomy (outermost op card root) (length out) (collected op card root words))
+          (λ t. rw t (at-once 0 (collected op card root words) (λ e. mine) out
+          (roomy-none op card root n sound bc br (collected op card root words) mine out t)
+          (roomy-fits op card root n sound bc br (collected op card root words) mine out t)))
+          (λ t. rw t (in-two 0 (collected op card root words) (λ e. mine) out))

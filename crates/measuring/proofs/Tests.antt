@@ -1,95 +1,113 @@
 -- What is measured and what is written, test by test. Assumes nothing.
-use mathlib.Core.Path.{_≡_, refl, ap, ap₂, _∙_}
-use mathlib.Core.Bool.{true, false}
-use mathlib.Core.List.{List, [], _++_}
-use Prim.Native.Nat.{ℕ, _+_, _-_, _*_, _/_, _<_, _≤_}
-use native.Mathlib.Omega.{arith}
+use mathlib.Core.Path.{_≡_, refl, ap, ap₂, sym, _∙_}
+use mathlib.Core.Bool.{Bool, true, false}
+use mathlib.Core.List.{List, [], _∷_, _++_}
+use Prim.Native.Nat.{ℕ, _+_, _-_, _<_, _≤_}
 use lib.ListN.{length, drop}
-use lib.Dec.{leb, ltb}
-use borrow.Author.Tests.{lt-leb, le-leb, lt-ltb, le-ltb}
+use lib.Dec.{ltb}
+use borrow.Author.Tests.{lt-ltb, le-ltb}
 use Rattle.wire.specs.Numbers.{Bytes}
 use Rattle.operation.specs.declared.Shortening.{Shortening}
-use Rattle.chains.specs.Chains.{room}
 use Rattle.adding.specs.Adds.{Table, table}
+use Rattle.prefix.specs.Prefix.{scope}
+use Rattle.fields.specs.Fields.{namePlace}
+use Rattle.tables.specs.Tables.{tableOf}
 use Rattle.laying.specs.Lays.{lay}
 use Rattle.modules.specs.Modules.{Made, cardMade}
 use Rattle.writing.specs.Wrote.{Wrote}
 use Rattle.measuring.specs.declared.Written.the-variants.{Full, Length}
-use Rattle.measuring.specs.Measured.{surelyFits, output, measured, written, direct, inTwo, wholeOutput}
+use Rattle.fitting.specs.Fitting.{surelyFits, isRoomy}
+use Rattle.measuring.specs.Measured.{Output, output, measured, written, direct, inTwo, outermost, collected, wholeOutput}
 
 -- nothing is laid over no bytes
 none-laid : (b : Bytes) → lay [] 0 b ≡ []
 unfolding lay
 none-laid b = refl
 
--- whether it surely has room, by the code's tests
-module _ (card out : Bytes) (words : List ℕ) where
-  pub fits-not : length out / 42 < length card → false ≡ surelyFits card out words
-  unfolding surelyFits
-  fits-not h = rw (lt-leb (42 * length card) (length out) (let z : length out < 42 * length card = omega arith in z))
-
-  pub fits-is : length card ≤ length out / 42 → (r : ℕ) → r ≡ room words → leb (length card / 18) r ≡ surelyFits card out words
-  unfolding surelyFits
-  fits-is h r e = rw (le-leb (42 * length card) (length out) (let z : 42 * length card ≤ length out = omega arith in z), e)
-
 -- written at once
-module _ (op : Shortening) (card root : Bytes) (words : List ℕ) (out after : Bytes) (words₁ : List ℕ) (len full owner pairs : ℕ)
-    (w : Wrote out after words₁ len full owner pairs (cardMade op card root 65537 (table 0 words))) (sure : surelyFits card out words ≡ true) where
+module _ (op : Shortening) (card root : Bytes) (owner₀ : ℕ) (held₀ : Table) {out after : Bytes} {words₁ : List ℕ} {len full owner pairs : ℕ}
+    (w : Wrote out after words₁ len full owner pairs (cardMade op card root owner₀ held₀)) where
   abbrev M : Made
-  M = cardMade op card root 65537 (table 0 words)
+  M = cardMade op card root owner₀ held₀
 
   held : words₁ ≡ M .held .words
   held = ap (λ (t : Table). t .words) (w .held-is)
 
-  pub direct-full : 0 < full → output (Full (full - 1)) after words₁ ≡ wholeOutput op card root words out
-  unfolding wholeOutput direct measured
-  direct-full h = rw (sure, held, w .laid, w .full-is) (rw (lt-ltb 0 (M .full) (rw (w .full-is) at h)))
+  pub direct-full : 0 < full → output (Full (full - 1)) after words₁ ≡ direct op card root owner₀ held₀ out
+  unfolding direct measured
+  direct-full h = rw (held, w .laid, w .full-is) (rw (lt-ltb 0 (M .full) (rw (w .full-is) at h)))
 
-  pub direct-gives : full ≤ 0 → output (Length len) after words₁ ≡ wholeOutput op card root words out
-  unfolding wholeOutput direct measured
-  direct-gives h = rw (sure, held, w .laid, w .length-is) (rw (le-ltb 0 (M .full) (rw (w .full-is) at h)))
+  pub direct-gives : full ≤ 0 → output (Length len) after words₁ ≡ direct op card root owner₀ held₀ out
+  unfolding direct measured
+  direct-gives h = rw (held, w .laid, w .length-is) (rw (le-ltb 0 (M .full) (rw (w .full-is) at h)))
 
 -- measured first
-module _ (op : Shortening) (card root : Bytes) (words : List ℕ) (out part : Bytes) (words₁ : List ℕ) (len full owner pairs : ℕ)
-    (w : Wrote [] part words₁ len full owner pairs (cardMade op card root 65537 (table 0 words))) (sure : surelyFits card out words ≡ false) where
+module _ (op : Shortening) (card root : Bytes) (owner₀ : ℕ) (held₀ : Table) (out : Bytes) {part : Bytes} {words₁ : List ℕ} {len full owner pairs : ℕ}
+    (w : Wrote [] part words₁ len full owner pairs (cardMade op card root owner₀ held₀)) where
   -- out comes back as it was
   pub same-out : part ++ drop 0 out ≡ out
   same-out = ap (λ (x : Bytes). x ++ out) (w .laid ∙ none-laid _)
 
-  is-full : full ≡ measured op card root words .full
+  is-full : full ≡ measured op card root owner₀ held₀ .full
   unfolding measured
   is-full = w .full-is
 
-  is-length : len ≡ length (measured op card root words .bytes)
+  is-length : len ≡ length (measured op card root owner₀ held₀ .bytes)
   unfolding measured
   is-length = w .length-is
 
-  is-words : words₁ ≡ measured op card root words .held .words
+  is-words : words₁ ≡ measured op card root owner₀ held₀ .held .words
   unfolding measured
   is-words = ap (λ (t : Table). t .words) (w .held-is)
 
-  again : cardMade op card root owner (table pairs words₁) ≡ written op card root words
+  again : cardMade op card root owner (table pairs words₁) ≡ written op card root owner₀ held₀
   unfolding written measured
   again = ap₂ (cardMade op card root) (w .owner-is) (w .held-is)
 
-  pub full-gives : 0 < full → output (Full (full - 1)) (part ++ drop 0 out) words₁ ≡ wholeOutput op card root words out
-  unfolding wholeOutput inTwo
-  full-gives h = rw (sure, same-out, is-words, is-full) (rw (lt-ltb 0 (measured op card root words .full) (rw is-full at h)))
+  pub full-gives : 0 < full → output (Full (full - 1)) (part ++ drop 0 out) words₁ ≡ inTwo op card root owner₀ held₀ out
+  unfolding inTwo
+  full-gives h = rw (same-out, is-words, is-full) (rw (lt-ltb 0 (measured op card root owner₀ held₀ .full) (rw is-full at h)))
 
   module _ (z : full ≤ 0) where
-    none-full : ltb 0 (measured op card root words .full) ≡ false
-    none-full = le-ltb 0 (measured op card root words .full) (rw is-full at z)
+    none-full : ltb 0 (measured op card root owner₀ held₀ .full) ≡ false
+    none-full = le-ltb 0 (measured op card root owner₀ held₀ .full) (rw is-full at z)
 
-    pub no-room-gives : length (part ++ drop 0 out) < len → output (Length len) (part ++ drop 0 out) words₁ ≡ wholeOutput op card root words out
-    unfolding wholeOutput inTwo
+    pub no-room-gives : length (part ++ drop 0 out) < len → output (Length len) (part ++ drop 0 out) words₁ ≡ inTwo op card root owner₀ held₀ out
+    unfolding inTwo
     no-room-gives h =
-        rw (sure, same-out, is-words, is-length)
-        (rw (none-full, lt-ltb (length out) (length (measured op card root words .bytes)) (rw (same-out, is-length) at h)))
+        rw (same-out, is-words, is-length)
+        (rw (none-full, lt-ltb (length out) (length (measured op card root owner₀ held₀ .bytes)) (rw (same-out, is-length) at h)))
 
-    pub room-gives : len ≤ length (part ++ drop 0 out) → (after : Bytes) (words₂ : List ℕ) (len₂ full₂ owner₂ pairs₂ : ℕ)
+    pub room-gives : len ≤ length (part ++ drop 0 out) → {after : Bytes} {words₂ : List ℕ} {len₂ full₂ owner₂ pairs₂ : ℕ}
         → Wrote (part ++ drop 0 out) after words₂ len₂ full₂ owner₂ pairs₂ (cardMade op card root owner (table pairs words₁))
-        → output (Length len) after words₂ ≡ wholeOutput op card root words out
-    unfolding wholeOutput inTwo
-    room-gives h after words₂ len₂ full₂ owner₂ pairs₂ x =
-        rw (sure, x .laid, same-out, ap (λ (t : Table). t .words) (x .held-is), again, is-length)
-        (rw (none-full, le-ltb (length out) (length (measured op card root words .bytes)) (rw (same-out, is-length) at h)))
+        → output (Length len) after words₂ ≡ inTwo op card root owner₀ held₀ out
+    unfolding inTwo
+    room-gives h x =
+        rw (x .laid, same-out, ap (λ (t : Table). t .words) (x .held-is), again, is-length)
+        (rw (none-full, le-ltb (length out) (length (measured op card root owner₀ held₀ .bytes)) (rw (same-out, is-length) at h)))
+
+-- which of them
+module _ (op : Shortening) (card root : Bytes) (words : List ℕ) (out : Bytes) where
+  pub surely-gives : {o : Output} {b : Bool} → b ≡ surelyFits card out words → b ≡ true → o ≡ direct op card root 65537 (table 0 words) out
+      → o ≡ wholeOutput op card root words out
+  unfolding wholeOutput
+  surely-gives e t x = x ∙ rw (← e, t)
+
+  -- place is where the outermost module's name stands, and mine its table, as the code has them
+  module _ {b : Bool} (e : b ≡ surelyFits card out words) (t : b ≡ false) {place : ℕ} (p : place ≡ namePlace card 0) {mine : Table}
+      (m : mine ≡ tableOf (scope op card root (place ∷ [])) 48 0 65537 (table 0 words))
+      {d : Bool} (f : d ≡ isRoomy (scope op card root (place ∷ [])) (length out) mine) where
+    is-mine : mine ≡ collected op card root words
+    unfolding collected
+    is-mine = m ∙ rw p
+
+    is-roomy : isRoomy (outermost op card root) (length out) (collected op card root words) ≡ d
+    is-roomy = rw (← is-mine, ← p) (sym f)
+
+    pub roomy-gives : {o : Output} → d ≡ true → o ≡ direct op card root 0 mine out → o ≡ wholeOutput op card root words out
+    unfolding wholeOutput
+    roomy-gives y x = x ∙ rw (← e, t, is-roomy, y, ← is-mine)
+
+    pub other-gives : {o : Output} → d ≡ false → o ≡ inTwo op card root 0 mine out → o ≡ wholeOutput op card root words out
+    unfolding wholeOutput
+    other-gives y x = x ∙ rw (← e, t, is-roomy, y, ← is-mine)

@@ -1,16 +1,19 @@
 -- The output is measured before a byte of it is written (01, "The console's answers": 8 and 9 leave the out buffer), unless it surely has room, and every table
--- too: an output is at most 42 times as long as its card, and a pair takes 18 bytes of a card. Assumes nothing: these are definitions.
-use mathlib.Core.Bool.{Bool, _&&_, cond}
-use mathlib.Core.List.{List}
-use Prim.Native.Nat.{ℕ, _-_, _*_, _/_}
+-- too. Assumes nothing: these are definitions.
+use mathlib.Core.Bool.{cond}
+use mathlib.Core.List.{List, [], _∷_}
+use Prim.Native.Nat.{ℕ, _-_}
 use lib.ListN.{length}
-use lib.Dec.{leb, ltb}
+use lib.Dec.{ltb}
 use Rattle.wire.specs.Numbers.{Bytes}
 use Rattle.operation.specs.declared.Shortening.{Shortening}
-use Rattle.chains.specs.Chains.{room}
-use Rattle.adding.specs.Adds.{table}
+use Rattle.prefix.specs.Prefix.{Scope, scope}
+use Rattle.adding.specs.Adds.{Table, table}
+use Rattle.fields.specs.Fields.{namePlace}
+use Rattle.tables.specs.Tables.{tableOf}
 use Rattle.laying.specs.Lays.{lay}
 use Rattle.modules.specs.Modules.{Made, cardMade}
+use Rattle.fitting.specs.Fitting.{surelyFits, isRoomy}
 use Rattle.measuring.specs.declared.Written.{Written}
 use Rattle.measuring.specs.declared.Written.the-variants.{Full, Length}
 
@@ -23,33 +26,39 @@ pub record Output : Type 0 where
 abbrev pub output : Written → Bytes → List ℕ → Output
 output answer out words = record { answer = answer; out = out; words = words }
 
-unfoldable pub surelyFits : (card out : Bytes) → List ℕ → Bool
-surelyFits card out words = leb (42 * length card) (length out) && leb (length card / 18) (room words)
-
-module _ (op : Shortening) (card root : Bytes) (words : List ℕ) where
-  -- by words that hold no module's table: no module stands at place 65537
-  unfoldable pub measured : Made
-  measured = cardMade op card root 65537 (table 0 words)
+module _ (op : Shortening) (card root : Bytes) where
+  -- by words that hold this table, of the module at a place: at place 65537 stands none
+  unfoldable pub measured : ℕ → Table → Made
+  measured owner held = cardMade op card root owner held
 
   -- and once more, by the words as they are then
-  unfoldable pub written : Made
-  written = cardMade op card root (measured .owner) (measured .held)
+  unfoldable pub written : ℕ → Table → Made
+  written owner held = cardMade op card root (measured owner held .owner) (measured owner held .held)
 
   -- written at once
-  unfoldable pub direct : Bytes → Output
-  direct out =
-      let m : Made = measured in
+  unfoldable pub direct : ℕ → Table → Bytes → Output
+  direct owner held out =
+      let m : Made = measured owner held in
       cond (ltb 0 (m .full)) (output (Full (m .full - 1)) (lay out 0 (m .bytes)) (m .held .words))
       (output (Length (length (m .bytes))) (lay out 0 (m .bytes)) (m .held .words))
 
   -- measured, and then written where there is room
-  unfoldable pub inTwo : Bytes → Output
-  inTwo out =
-      let m : Made = measured in
-      let w : Made = written in
+  unfoldable pub inTwo : ℕ → Table → Bytes → Output
+  inTwo owner held out =
+      let m : Made = measured owner held in
+      let w : Made = written owner held in
       let n : ℕ = length (m .bytes) in
       cond (ltb 0 (m .full)) (output (Full (m .full - 1)) out (m .held .words))
       (cond (ltb (length out) n) (output (Length n) out (m .held .words)) (output (Length n) (lay out 0 (w .bytes)) (w .held .words)))
 
-  unfoldable pub wholeOutput : Bytes → Output
-  wholeOutput out = cond (surelyFits card out words) (direct out) (inTwo out)
+  -- the outermost module, and its table
+  abbrev pub outermost : Scope
+  outermost = scope op card root (namePlace card 0 ∷ [])
+
+  unfoldable pub collected : List ℕ → Table
+  collected words = tableOf outermost 48 0 65537 (table 0 words)
+
+  unfoldable pub wholeOutput : List ℕ → Bytes → Output
+  wholeOutput words out =
+      let mine : Table = collected words in
+      cond (surelyFits card out words) (direct 65537 (table 0 words) out) (cond (isRoomy outermost (length out) mine) (direct 0 mine out) (inTwo 0 mine out))

@@ -1,8 +1,10 @@
-// The output is measured, by the walk that writes it, over an empty part of the out buffer, and written where it has room: a refusal leaves the buffer. One that
-// surely has room is written at once.
+// The output is written at once where it surely has room. Else it is measured first, by the walk that writes it, over an empty part of the out buffer: a refusal
+// leaves the buffer.
 use operation::Shortening;
+use tables::Held;
 ghost use mathlib.Core.Path.{_≡_};
-ghost use Rattle.measuring.specs.Measured.{surelyFits, output, wholeOutput};
+ghost use Rattle.adding.specs.Adds.{table};
+ghost use Rattle.measuring.specs.Measured.{output, direct, inTwo, wholeOutput};
 
 pub enum Written {
     // the place of the first module whose table is full
@@ -11,31 +13,41 @@ pub enum Written {
     Length(usize),
 }
 
-// Whether an output surely has room, and every table: the one is at most 42 times as long as its card, and a pair takes 18 bytes of a card.
-fn surely_fits(card: &[u8], out: &[u8], work: &[u32]) -> bool
-    ensures { λ r. ⌜ r ≡ surelyFits (now (card .entry)) (now (out .entry)) (now (work .entry)) ⌝ }
+// Without measuring, given whose table the words hold.
+fn write_at_once(
+    op: Shortening,
+    card: &[u8],
+    root: &[u8],
+    out: &mut [u8],
+    work: &mut [u32],
+    owner: usize,
+    pairs: usize,
+) -> Written
+    ensures { λ r. ⌜ output r (now (out .exit)) (now (work .exit))
+        ≡ direct op (now (card .entry)) (now (root .entry)) owner (table pairs (now (work .entry))) (now (out .entry)) ⌝ }
 {
-    if out.len() / 42 < card.len() {
-        return false;
+    let w = writing::write_card(op, card, root, out, work, owner, pairs);
+    let place = w.full;
+    if 0 < place {
+        return Written::Full(place - 1);
     }
-    card.len() / 18 <= chains::room(work)
+    Written::Length(w.length)
 }
 
-// An output that surely has room is written at once. Else it is measured first: a card without nested modules is still collected once, since the words hold its
-// table when it is written.
-pub fn write(op: Shortening, card: &[u8], root: &[u8], out: &mut [u8], work: &mut [u32]) -> Written
+// A card without nested modules is still collected once: the words hold its table when it is written.
+fn measure_first(
+    op: Shortening,
+    card: &[u8],
+    root: &[u8],
+    out: &mut [u8],
+    work: &mut [u32],
+    owner: usize,
+    pairs: usize,
+) -> Written
     ensures { λ r. ⌜ output r (now (out .exit)) (now (work .exit))
-        ≡ wholeOutput op (now (card .entry)) (now (root .entry)) (now (work .entry)) (now (out .entry)) ⌝ }
+        ≡ inTwo op (now (card .entry)) (now (root .entry)) owner (table pairs (now (work .entry))) (now (out .entry)) ⌝ }
 {
-    if surely_fits(card, out, work) {
-        let w = writing::write_card(op, card, root, out, work, 65537, 0);
-        let place = w.full;
-        if 0 < place {
-            return Written::Full(place - 1);
-        }
-        return Written::Length(w.length);
-    }
-    let m = writing::write_card(op, card, root, &mut out[..0], work, 65537, 0);
+    let m = writing::write_card(op, card, root, &mut out[..0], work, owner, pairs);
     let full = m.full;
     if 0 < full {
         return Written::Full(full - 1);
@@ -46,4 +58,25 @@ pub fn write(op: Shortening, card: &[u8], root: &[u8], out: &mut [u8], work: &mu
     }
     writing::write_card(op, card, root, out, work, m.owner, m.pairs);
     Written::Length(n)
+}
+
+// The outermost module's table is collected first: its uses are then known, and whether the output surely has room.
+pub fn write(op: Shortening, card: &[u8], root: &[u8], out: &mut [u8], work: &mut [u32]) -> Written
+    ensures { λ r. ⌜ output r (now (out .exit)) (now (work .exit))
+        ≡ wholeOutput op (now (card .entry)) (now (root .entry)) (now (work .entry)) (now (out .entry)) ⌝ }
+{
+    if fitting::surely_fits(card, out, work) {
+        return write_at_once(op, card, root, out, work, 65537, 0);
+    }
+    let chain: [usize; 1] = [fields::name_place(card, 0)];
+    let none = Held {
+        owner: 65537,
+        pairs: 0,
+    };
+    let held = tables::table_of(op, card, 0, 48, root, &chain, work, none);
+    let pairs = held.pairs;
+    if fitting::is_roomy(op, card, root, &chain, out.len(), work, pairs) {
+        return write_at_once(op, card, root, out, work, 0, pairs);
+    }
+    measure_first(op, card, root, out, work, 0, pairs)
 }

@@ -61,7 +61,7 @@ module _ (d a n : Record) (c : Records) where
     pub mod-content : contentOf (encode Mod) ≡ encodeAll (d ▸ a ▸ n ▸ node 0x02 c ▸ nil)
     mod-content = alone-content Mod h
 
-    body-is : bodyIn (encodeAll (d ▸ a ▸ n ▸ node 0x02 c ▸ nil)) ≡ encode (node 0x02 c)
+    pub body-is : bodyIn (encodeAll (d ▸ a ▸ n ▸ node 0x02 c ▸ nil)) ≡ encode (node 0x02 c)
     unfolding encodeAll Canonical
     body-is =
         ap (λ (x : Bytes). restOf (restOf x)) (encode-rest d (encodeAll (a ▸ n ▸ node 0x02 c ▸ nil)) (h .3 .0))

@@ -1,15 +1,17 @@
 -- THE OUTERMOST MODULE of a card that is admitted: what is written of it is the output, or the place of the first table that is full. Assumes nothing.
 use mathlib.Core.Path.{_≡_, ap, sym, subst, _∙_}
-use mathlib.Core.List.{[], append-nil}
+use mathlib.Core.List.{List, [], append-nil}
 use mathlib.Core.Option.{none}
-use Prim.Native.Nat.{ℕ, _+_, _/_, _<_, _≤_, min}
+use Prim.Native.Nat.{ℕ, _+_, _*_, _/_, _<_, _≤_, min}
 use native.Mathlib.Nat.{le-refl}
 use native.Mathlib.Omega.{arith}
 use lib.ListN.{length, getD}
+use lib.Seq.{length-take-le}
+use borrow.Author.Tests.{le-ltb}
 use Rattle.answers.specs.declared.Verdict.the-variants.{Sound}
 use Rattle.wire.specs.Numbers.{Bytes}
 use Rattle.wire.proofs.Numbers.{are-bytes}
-use Rattle.records.specs.Record.{encode, tree, deep}
+use Rattle.records.specs.Record.{encode, encodeAll, tree, deep}
 use Rattle.records.specs.Kinds.{path, mod′}
 use Rattle.records.proofs.Sound.{ReadsAs, sound-reads}
 use Rattle.records.proofs.Starts.{Starts}
@@ -17,23 +19,30 @@ use Rattle.rast.specs.Path.{Path, MSel}
 use Rattle.rast.specs.Operation.{upstream}
 use Rattle.rast.specs.Mod.{nameOf}
 use Rattle.factor_paths.specs.Mapping.{Mapping}
-use Rattle.factor_paths.specs.Apply.{mappings, apply}
+use Rattle.factor_paths.specs.Apply.{mappings, pathsToRemove, imports, apply}
+use Rattle.factor_paths.proofs.Visits.{mappings-good}
 use Rattle.outcome.specs.FullTable.{fullTable}
 use Rattle.outcome.specs.Outcome.{admitted}
 use Rattle.outcome.proofs.Accepted.{admitted-sound}
 use Rattle.operation.specs.declared.Shortening.{Shortening}
 use Rattle.operation.specs.declared.Shortening.the-variants.{Upstream}
 use Rattle.operation.specs.Operations.{operationOf}
+use Rattle.operation.proofs.Lawful.{names-of}
 use Rattle.prefix.specs.Prefix.{Scope}
 use Rattle.prefix.proofs.Nested.{outermost-prefix}
 use Rattle.chains.specs.Chains.{room}
-use Rattle.adding.specs.Adds.{Table}
+use Rattle.adding.specs.Adds.{Table, table}
+use Rattle.adding.specs.Settles.{ownWords}
 use Rattle.fields.specs.Fields.{namePlace}
-use Rattle.gathering.specs.Gathers.{span}
-use Rattle.gathering.proofs.Mapped.{selected-canonical}
+use Rattle.gathering.specs.Gathers.{span, gathered}
+use Rattle.gathering.proofs.Mapped.{selected-canonical, module-tabled}
+use Rattle.gathering.proofs.Chosen.{uses-final}
+use Rattle.tables.specs.Tables.{tableOf}
+use Rattle.tables.proofs.Owner.{owner-has}
+use Rattle.rewriting.specs.Imports.{importsBytes}
 use Rattle.modules.specs.Modules.{Made, moduleMade}
 use Rattle.modules.proofs.Inner.{name-there, name-small}
-use Rattle.modules.proofs.States.{found, Ready, After, same, other, scopeAt, Stands, Applied}
+use Rattle.modules.proofs.States.{found, Ready, settled-ready, After, same, other, scopeAt, Stands, Applied}
 use Rattle.modules.proofs.Applies.{module-applies}
 
 -- words that are the module's own, and ready, are so after it too
@@ -102,34 +111,64 @@ admitted-reads Upstream card root words e bc br =
       is-root = sound-reads 8 path root (are-bytes root br) (a .root-sound);
     }
 
--- what is made of the outermost module, where there may be as many pairs as the operation says of so many lent words
-pub record Outermost (op : Shortening) (card root : Bytes) (words : ℕ) (held : Table) (M : Made) : Type 0 where
-  pub full : M .full ≡ found (fullTable (operationOf op) (operationOf op .mostPairs words) (deep (tree card)) (tree card) (Prefix card root) 0)
-  pub bytes : fullTable (operationOf op) (operationOf op .mostPairs words) (deep (tree card)) (tree card) (Prefix card root) 0 ≡ none
+-- what is made of the outermost module, where there may be so many pairs
+pub record Outermost (op : Shortening) (card root : Bytes) (most : ℕ) (held : Table) (M : Made) : Type 0 where
+  pub full : M .full ≡ found (fullTable (operationOf op) most (deep (tree card)) (tree card) (Prefix card root) 0)
+  pub bytes : fullTable (operationOf op) most (deep (tree card)) (tree card) (Prefix card root) 0 ≡ none
       → M .bytes ≡ encode (apply (operationOf op) (tree root) (tree card))
   pub long : length (M .held .words) ≡ length (held .words)
   pub own : M .owner ≡ 0 → Own card root op (M .held)
 
--- THE LAW
-pub outermost-is : (op : Shortening) (card root : Bytes) (words : ℕ) → admitted (operationOf op) card root words ≡ Sound
-    → ((i : ℕ) → getD card i 0 < 256) → ((i : ℕ) → getD root i 0 < 256)
-    → (owner : ℕ) (held : Table) → room (held .words) ≡ operationOf op .mostPairs words → (owner ≡ 0 → Own card root op held)
-    → Outermost op card root words held (moduleMade op card root 48 [] (span 0 (length card)) owner held)
-unfolding apply
-outermost-is op card root words e bc br owner held most t =
-    let M = moduleMade op card root 48 [] (span 0 (length card)) owner held in
-    let a = outermost-applies card root op (operationOf op .rootDepth) (admitted-reads op card root words e bc br) owner held t in
-    record {
-      full = rw (← most) (a .full);
-      bytes = λ z. a .bytes (rw (← most) at z);
-      long = a .words;
-      own = after-ready (scopeAt op card root [] 0) 0 _ (mappings (operationOf op) (tree card) (Prefix card root)) owner held M t (a .after);
-    }
+module _ (op : Shortening) (card root : Bytes) (words : ℕ) (sound : admitted (operationOf op) card root words ≡ Sound)
+    (bc : (i : ℕ) → getD card i 0 < 256) (br : (i : ℕ) → getD root i 0 < 256) where
+  -- THE LAW
+  pub outermost-is : (owner : ℕ) (held : Table) → (owner ≡ 0 → Own card root op held)
+      → Outermost op card root (room (held .words)) held (moduleMade op card root 48 [] (span 0 (length card)) owner held)
+  unfolding apply
+  outermost-is owner held t =
+      let M = moduleMade op card root 48 [] (span 0 (length card)) owner held in
+      let a = outermost-applies card root op (operationOf op .rootDepth) (admitted-reads op card root words sound bc br) owner held t in
+      record {
+        full = a .full;
+        bytes = a .bytes;
+        long = a .words;
+        own = after-ready (scopeAt op card root [] 0) 0 _ (mappings (operationOf op) (tree card) (Prefix card root)) owner held M t (a .after);
+      }
 
--- and of it once more, by the words as they are then
-pub outermost-again : (op : Shortening) (card root : Bytes) (words : ℕ) → admitted (operationOf op) card root words ≡ Sound
-    → ((i : ℕ) → getD card i 0 < 256) → ((i : ℕ) → getD root i 0 < 256)
-    → (held : Table) → room (held .words) ≡ operationOf op .mostPairs words → (M : Made) → Outermost op card root words held M
-    → Outermost op card root words (M .held) (moduleMade op card root 48 [] (span 0 (length card)) (M .owner) (M .held))
-outermost-again op card root words e bc br held most M o =
-    outermost-is op card root words e bc br (M .owner) (M .held) (ap (λ (x : ℕ). min (x / 4) 65535) (o .long) ∙ most) (o .own)
+  -- and of it once more, by the words as they are then
+  pub outermost-again : (held : Table) (M : Made) → Outermost op card root (room (held .words)) held M
+      → Outermost op card root (room (held .words)) (M .held) (moduleMade op card root 48 [] (span 0 (length card)) (M .owner) (M .held))
+  outermost-again held M o =
+      subst (λ (most : ℕ). Outermost op card root most (M .held) (moduleMade op card root 48 [] (span 0 (length card)) (M .owner) (M .held)))
+      (ap (λ (x : ℕ). min (x / 4) 65535) (o .long)) (outermost-is (M .owner) (M .held) (o .own))
+
+  abbrev Mapped : Mapping
+  Mapped = mappings (operationOf op) (tree card) (Prefix card root)
+
+  here : Stands op card root [] 0 (tree card) (Prefix card root)
+  here = outermost-stands card root op (operationOf op .rootDepth) (admitted-reads op card root words sound bc br)
+
+  -- its table, collected beforehand
+  abbrev pub Collected : List ℕ → Table
+  Collected ws = tableOf (scopeAt op card root [] 0) 48 0 65537 (table 0 ws)
+
+  pub collected-own : (ws : List ℕ) → Own card root op (Collected ws)
+  collected-own ws =
+      let r = admitted-reads op card root words sound bc br in
+      owner-has (scopeAt op card root [] 0) 48 0 65537 (table 0 ws) (λ (u : Table). Ready (scopeAt op card root [] 0) u Mapped) (λ e. absurd (omega (arith, e)))
+      (settled-ready (scopeAt op card root [] 0) (gathered (scopeAt op card root [] 0) 48 0 ws) Mapped
+      (module-tabled (scopeAt op card root [] 0) 0 (tree card) (here .starts) (here .fits) (here .canonical) 48 (r .is-card .shallow) (r .small) (Prefix card
+      root)
+      (here .prefixed) (here .prefix-is) ws))
+
+  -- and the uses that a table of its own brings, if it is not full
+  pub own-uses : (t : Table) → Own card root op t → t .count ≤ room (t .words)
+      → importsBytes (scopeAt op card root [] 0) (ownWords t) (t .count) ≡ encodeAll (imports (operationOf op) (tree card) (Prefix card root))
+  unfolding importsBytes imports pathsToRemove
+  own-uses t ready r =
+      let reads = admitted-reads op card root words sound bc br in
+      let l = length-take-le (4 * t .count) (t .words) (omega arith) in
+      let o : room (ownWords t) ≡ t .count = omega arith in
+      rw (le-ltb 65536 (length card) (reads .small), le-ltb (room (ownWords t)) (t .count) (omega arith))
+      (sym (uses-final (scopeAt op card root [] 0) (table (t .count) (ownWords t)) Mapped (ready .tabled r)
+      (mappings-good (operationOf op) (names-of op) (tree card) (Prefix card root)) (omega arith) (Prefix card root) (here .prefixed) (here .prefix-is)))

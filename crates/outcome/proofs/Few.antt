@@ -1,7 +1,7 @@
 -- Where there is room for a pair for every 18 bytes of a module, no table is full. Assumes nothing.
 use mathlib.Core.Path.{_≡_, refl, sym, ap, subst}
 use mathlib.Core.List.{[], _∷_}
-use mathlib.Core.Bool.{false}
+use mathlib.Core.Bool.{true, false}
 use mathlib.Core.Option.{none}
 use Prim.Native.Nat.{ℕ, zero, suc, _+_, _*_, _≤_, _<_, _/_}
 use native.Mathlib.Omega.{arith}
@@ -68,3 +68,22 @@ module _ (op : Operation) (most : ℕ) where
 -- THE LAW: where there may be a pair for every 18 bytes of a module, neither it nor a module in it has too many
 pub few-none : (op : Operation) (most n : ℕ) (m : Record) (S : Path) (at : ℕ) → Fits m mod′ → length (encode m) / 18 ≤ most → fullTable op most n m S at ≡ none
 few-none op most n m S at f l = few op most n m S at f (let e = encode-size m in omega arith)
+
+module _ (op : Operation) (most n : ℕ) (S : Path) where
+  -- nor has a module in a declaration that is so small
+  pub declared-few : (d : Record) → Fits d (kinds 0x62 0x6A) → (is 0x62 d ≡ true → length (encode d) / 18 ≤ most) → (at : ℕ) → inDecl op most n S d at ≡ none
+  declared-few d f l at =
+      by-test (is 0x62 d)
+      (λ t. let b = l t in let e = encode-size d in decl-none op most n (few op most n) S d f (omega arith) at)
+      (λ t. rw t)
+
+  -- where a module has no more pairs than that, and no module in its body has
+  pub apart-none : (m : Record) (at : ℕ) → Fits m mod′ → pairs (mappings op m S .provenance) ≤ most
+      → ((h : ModFields m) → (place : ℕ) → firstIn (inDecl op most n S) (h .body) place ≡ none) → fullTable op most (suc n) m S at ≡ none
+  unfolding fullTable nth
+  apart-none m at f l b = by-kind 0x60 1 m ((λ g. held (mod-fields m g)) ⨾ extern-none op most (suc n) m S at) f
+    where
+      held : ModFields m → fullTable op most (suc n) m S at ≡ none
+      held h =
+          subst (λ m. ltb most (pairs (mappings op m S .provenance)) ≡ false → fullTable op most (suc n) m S at ≡ none) (sym (h .is-mod))
+          (λ e. rw e (b h _)) (le-ltb most _ l)

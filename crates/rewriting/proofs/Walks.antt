@@ -43,10 +43,10 @@ use Rattle.rewriting.specs.Rewrites.{partsOf, each, counted, uncounted, 
 use Rattle.rewriting.proofs.Parts.{parts-end, encodeEach, parts-all}
 
 -- a record's bytes alone
-alone-kind : (r : Record) → Canonical r → kindOf (encode r) ≡ kind r
+pub alone-kind : (r : Record) → Canonical r → kindOf (encode r) ≡ kind r
 alone-kind r h = ap kindOf (sym (append-nil (encode r))) ∙ encode-kind r [] h
 
-alone-content : (r : Record) → Canonical r → contentOf (encode r) ≡ inside r
+pub alone-content : (r : Record) → Canonical r → contentOf (encode r) ≡ inside r
 alone-content r h = ap contentOf (sym (append-nil (encode r))) ∙ encode-content r [] h
 
 -- the path that a record of kind k holds
@@ -69,7 +69,7 @@ module _ (k : ℕ) (b : Path) (n : Name) (h : Canonical (node k (MSel b n ▸ ni
   unfolding encodeAll
   base-is = ap firstRecord (path-content k (MSel b n) h) ∙ encode-first b (encodeAll (leaf 0x01 n ▸ nil)) base-canonical
 
-  name-is : nameIn (encode (node k (MSel b n ▸ nil))) ≡ n
+  pub name-is : nameIn (encode (node k (MSel b n ▸ nil))) ≡ n
   unfolding encodeAll Canonical
   name-is =
       ap (λ (x : Bytes). contentOf (restOf x)) (path-content k (MSel b n) h)
@@ -105,7 +105,7 @@ unfolding encodeAll skip Canonical num
 rest-is nil h = refl
 rest-is (r ▸ c) h = encode-rest r (encodeAll c) (h .0)
 
-counted-is : (c : Records) → CanonicalAll c → counted (encodeAll c) ≡ encodeAll (skip 2 c)
+pub counted-is : (c : Records) → CanonicalAll c → counted (encodeAll c) ≡ encodeAll (skip 2 c)
 unfolding skip Canonical
 counted-is nil h = ap restOf (rest-is nil h) ∙ rest-is nil h
 counted-is (r ▸ c) h = ap restOf (rest-is (r ▸ c) h) ∙ rest-is c (h .1)
@@ -116,13 +116,19 @@ split-at zero c = refl
 split-at (suc i) nil = refl
 split-at (suc i) (r ▸ c) = ap (λ (x : Bytes). encode r ++ x) (split-at i c) ∙ sym (append-assoc (encode r) (encodeAll (first i c)) (encodeAll (skip i c)))
 
-uncounted-is : (c : Records) → CanonicalAll c → uncounted (encodeAll c) ≡ encodeAll (first 2 c)
+pub uncounted-is : (c : Records) → CanonicalAll c → uncounted (encodeAll c) ≡ encodeAll (first 2 c)
 uncounted-is c h =
     let a = encodeAll (first 2 c) in
     let b = encodeAll (skip 2 c) in
     let e : length (encodeAll c) ≡ length a + length b = ap length (split-at 2 c) ∙ length-append a b in
     rw (counted-is c h)
     (ap (take (length (encodeAll c) - length b)) (split-at 2 c) ∙ take-at a b (length (encodeAll c) - length b) (omega arith))
+
+-- a Fn's fields from the third on count
+pub counts : (op : Operation) (rep : FinalReplacement) (i : ℕ) → 2 ≤ i → (c : Records) → walkFn op rep i c ≡ walkAll op rep (op .walksAgain) 1 c
+unfolding walk
+counts op rep i l nil = refl
+counts op rep i l (r ▸ c) = rw (le-leb 2 i l, counts op rep (suc i) (omega arith) c)
 
 module _ (s : Scope) (t : Table) (m : Mapping) (tabled : Tabled s t m) (good : Good (operationOf (s .op)) m) (room-for : t .count ≤ room (t .words))
     (S : Path) (canonical : Canonical S) (prefix-is : prefixIn s ≡ encode S) where
@@ -195,12 +201,6 @@ module _ (s : Scope) (t : Table) (m : Mapping) (tabled : Tabled s t m) (good : G
     unfolding exprBytes replacesExpr ReplaceExprSingle nth
     expr-walked g = rw (o .only) (by-selected (ExprWalked k) (expr-selected k g) (λ e. rw (path-kind k p held-canonical, e, g)))
 
-  -- a Fn's fields from the third on count
-  counts : (i : ℕ) → 2 ≤ i → (c : Records) → walkFn Op Final i c ≡ walkAll Op Final (Op .walksAgain) 1 c
-  unfolding walk
-  counts i l nil = refl
-  counts i l (r ▸ c) = rw (le-leb 2 i l, counts (suc i) (omega arith) c)
-
   abbrev Walked : (depth : ℕ) → Type 0
   Walked depth =
       (again : Bool) (w : ℕ) (r : Record) → Paths r → Canonical r → deep r ≤ depth → rewrite s words depth again w (encode r) ≡ encode (walk Op Final again w r)
@@ -229,7 +229,7 @@ module _ (s : Scope) (t : Table) (m : Mapping) (tabled : Tabled s t m) (good : G
         rw (
           parts-walked false 1 (q ▸ r ▸ nil) (p .0, (p .1 .0, tt)) (h .0, (h .1 .0, tt)) (omega arith),
           parts-walked (Op .walksAgain) 1 c (p .1 .1) (h .1 .1) (omega arith),
-          counts 2 (omega arith) c,
+          counts Op Final 2 (omega arith) c,
         )
         (simp append-assoc)
 

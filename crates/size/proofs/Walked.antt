@@ -122,15 +122,16 @@ by-path P c i f g =
     (λ e. let same = i .only ∙ ap (λ p. p ▸ nil) (i .spelled e) in subst P (sym same) (f _ _ same))
     (λ e. subst P (sym (i .only)) (g (i .held) e))
 
-module _ (op : Operation) (rep : FinalReplacement) where
-  synonyms-size : (n : Name) (w : ℕ) (t : Record) → size (synonyms n w t) ≡ w * (18 + length n) + size t
-  unfolding synonyms size
-  synonyms-size n zero t = let m = zero-mul (18 + length n) in omega arith
-  synonyms-size n (suc w) t =
-      let i = synonyms-size n w t in
-      let m = suc-mul w (18 + length n) in
-      omega arith
+-- each synonym is 18 bytes and its name
+pub synonyms-size : (n : Name) (w : ℕ) (t : Record) → size (synonyms n w t) ≡ w * (18 + length n) + size t
+unfolding synonyms size
+synonyms-size n zero t = let m = zero-mul (18 + length n) in omega arith
+synonyms-size n (suc w) t =
+    let i = synonyms-size n w t in
+    let m = suc-mul w (18 + length n) in
+    omega arith
 
+module _ (op : Operation) (rep : FinalReplacement) where
   -- what a path type or a path expression that holds c becomes, with what it is charged
   abbrev Bounded : Records → Record → Type 0
   Bounded c r = size r + (19 + sizeAll c) ≤ 42 * (6 + sizeAll c)

@@ -130,7 +130,7 @@ collect-parts-loop-holds t c =
     let args = c .before .before .before .before .args in
     let pre = c .before .before .before .before .pre in (
       going-start (scope (args .op) (args .card .now) (args .root .now) (args .chain .now)) (table (args .n) (args .work .now)) (args .from) (args .to) (args
-      .k)
+          .k)
           (args .left) (pre .1 .0),
       refl,
     )
@@ -256,7 +256,7 @@ collect-parts-loop-again t c =
     let is-passed = c .before .is-passed in
     let if3 = c .if3 in (
       going-passed (loop .inv .0) (part .ensures) (is-short .ensures) (if1 .left) (record-length .ensures) (record-kind .ensures) (is-passed .ensures) (if3
-      .taken),
+          .taken),
       omega (arith, loop .inv .1),
     )
 
@@ -314,7 +314,7 @@ collect-parts-loop-again-2 t c =
     let if4 = c .before .before .before .before .if4 in
     let add-path = c .before .before .add-path in (
       going-whole (loop .inv .0) (part .ensures) (is-short .ensures) (if1 .left) (record-length .ensures) (record-kind .ensures) (is-passed .ensures) (if3
-      .left)
+          .left)
           (if2 .left) (type-path (scope (args .op) (args .card .now) (args .root .now) (args .chain .now)) _ _ _ _ _ _ (if4 .taken) (add-path .ensures)),
       omega (arith, loop .inv .1),
     )
@@ -365,7 +365,7 @@ collect-parts-loop-again-3 t c =
     let if5 = c .before .before .before .before .if5 in
     let add-path2 = c .before .before .add-path2 in (
       going-whole (loop .inv .0) (part .ensures) (is-short .ensures) (if1 .left) (record-length .ensures) (record-kind .ensures) (is-passed .ensures) (if3
-      .left)
+          .left)
           (if2 .left) (expr-path (scope (args .op) (args .card .now) (args .root .now) (args .chain .now)) _ _ _ _ _ _ (if5 .taken) (add-path2 .ensures)),
       omega (arith, loop .inv .1),
     )
@@ -452,7 +452,7 @@ collect-parts-loop-again-4 t c =
     let if2 = c .before .before .before .before .before .before .before .before .before .before .before .before .if2 in
     let collect-decl = c .before .before .collect-decl in (
       going-whole (loop .inv .0) (part .ensures) (is-short .ensures) (if1 .left) (record-length .ensures) (record-kind .ensures) (is-passed .ensures) (if3
-      .left)
+          .left)
           (if2 .left) (collect-decl .ensures),
       omega (arith, loop .inv .1),
     )
@@ -574,7 +574,7 @@ collect-parts-loop-again-6 t c =
     let stands = c .before .before .before .before .before .before .stands in
     let if6 = c .before .before .before .before .before .if6 in (
       going-parts (loop .inv .0) (part .ensures) (is-short .ensures) (if1 .left) (record-length .ensures) (record-kind .ensures) (is-passed .ensures) (if3
-      .left)
+          .left)
           (if2 .left)
           (other-whole (scope (args .op) (args .card .now) (args .root .now) (args .chain .now)) _ _ _ _ _ (if4 .left) (if5 .left)
           (sym (stands .ensures) ∙ if6 .left))

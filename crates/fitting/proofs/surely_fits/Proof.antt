@@ -1,9 +1,9 @@
--- `measuring::surely_fits` meets its contract. Assumes nothing.
+-- `fitting::surely_fits` meets its contract. Assumes nothing.
 use native.Mathlib.Omega.{arith}
-use Rattle.measuring.proofs.Tests.{fits-not, fits-is}
+use Rattle.fitting.proofs.Tests.{fits-not, fits-is}
 use borrow.Author.Needs.{needs}
-use Rattle.measuring.proofs.surely_fits.Statement.{statement}
-use Rattle.measuring.proofs.surely_fits.Tie as tie
+use Rattle.fitting.proofs.surely_fits.Statement.{statement}
+use Rattle.fitting.proofs.surely_fits.Tie as tie
 
 returns : tie.Need-returns
 returns c =

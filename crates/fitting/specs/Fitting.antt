@@ -1,0 +1,38 @@
+-- Whether an output surely has room in the out buffer, and every table in the work words, before anything is written. Assumes nothing: these are definitions.
+use mathlib.Core.Bool.{Bool, true, false, _&&_, cond}
+use mathlib.Core.List.{List, [], _∷_}
+use Prim.Native.Nat.{ℕ, _+_, _*_, _/_}
+use lib.ListN.{length}
+use lib.Dec.{eqb, leb, ltb}
+use Rattle.wire.specs.Numbers.{Bytes}
+use Rattle.records.specs.Record.{kindOf, contentOf, restOf}
+use Rattle.prefix.specs.Prefix.{Scope}
+use Rattle.chains.specs.Chains.{room}
+use Rattle.adding.specs.Adds.{Table}
+use Rattle.adding.specs.Settles.{ownWords}
+use Rattle.rewriting.specs.Imports.{importsBytes}
+use Rattle.rewriting.specs.Rewrites.{partsOf}
+use Rattle.growth.specs.Grows.{cardGrowth}
+
+-- by the card's length alone: an output is at most 42 times as long as its card, and a pair takes 18 bytes of a card
+unfoldable pub surelyFits : (card out : Bytes) → List ℕ → Bool
+surelyFits card out words = leb (42 * length card) (length out) && leb (length card / 18) (room words)
+
+-- whether each declaration that holds a module is so small that no table of its modules has more pairs than this
+unfoldable pub areFew : ℕ → List Bytes → Bool
+areFew most [] = true
+areFew most (d ∷ ds) = cond (eqb (kindOf d) 0x62 && ltb most (length d / 18)) false (areFew most ds)
+
+-- the declarations of a card that is a Mod: the content of its fourth field
+abbrev pub bodyOf : Bytes → Bytes
+bodyOf card = contentOf (restOf (restOf (restOf (contentOf card))))
+
+unfoldable pub nestedFew : Bytes → ℕ → Bool
+nestedFew card most = areFew most (partsOf (bodyOf card))
+
+-- by the outermost module's table, where so many bytes are lent: its uses are known, and what else can grow
+unfoldable pub isRoomy : Scope → ℕ → Table → Bool
+isRoomy s lent mine =
+    leb (mine .count) (room (mine .words))
+    && (leb (length (s .card) + cardGrowth (s .op) (s .card) + length (importsBytes s (ownWords mine) (mine .count))) lent
+    && nestedFew (s .card) (room (mine .words)))

@@ -1,0 +1,99 @@
+// Whether an output surely has room, and every table, before anything is written.
+use operation::Shortening;
+ghost use mathlib.Core.Path.{_≡_};
+ghost use mathlib.Core.Bool.{_&&_};
+ghost use Prim.Native.Nat.{_/_};
+ghost use lib.ListN.{length};
+ghost use lib.Dec.{eqb, ltb};
+ghost use Rattle.prefix.specs.Prefix.{scope};
+ghost use Rattle.adding.specs.Adds.{table};
+ghost use Rattle.rewriting.specs.Imports.{importsBytes};
+ghost use Rattle.fitting.specs.Fitting.{surelyFits, nestedFew, isRoomy};
+
+// By the card's length alone: an output is at most 42 times as long as its card, and a pair takes 18 bytes of a card.
+pub fn surely_fits(card: &[u8], out: &[u8], work: &[u32]) -> bool
+    ensures { λ r. ⌜ r ≡ surelyFits (now (card .entry)) (now (out .entry)) (now (work .entry)) ⌝ }
+{
+    if out.len() / 42 < card.len() {
+        return false;
+    }
+    card.len() / 18 <= chains::room(work)
+}
+
+// Whether a declaration of kind k and n bytes can hold a module with more pairs than this.
+fn is_many(k: usize, n: usize, most: usize) -> bool
+    ensures { λ r. ⌜ r ≡ (eqb k 0x62 && ltb most (n / 18)) ⌝ }
+{
+    if k == 0x62 {
+        return most < n / 18;
+    }
+    false
+}
+
+// Whether no module in a declaration of a card's Mod can have a table of more pairs than this.
+fn has_few(card: &[u8], most: usize) -> bool
+    ensures { λ r. ⌜ r ≡ nestedFew (now (card .entry)) most ⌝ }
+{
+    let ahead = reader::content(card);
+    let body = reader::content(reader::rest(reader::rest(reader::rest(ahead))));
+    let end = body.len();
+    let mut i = 0;
+    while i < end {
+        let s = &body[i..];
+        if reader::is_short(s) {
+            return true;
+        }
+        let n = 4 + reader::record_length(s);
+        if is_many(reader::record_kind(s), n, most) {
+            return false;
+        }
+        i += n;
+    }
+    true
+}
+
+// How long the uses of a table of n pairs are.
+fn uses_length(
+    op: Shortening,
+    card: &[u8],
+    root: &[u8],
+    chain: &[usize],
+    work: &[u32],
+    n: usize,
+) -> usize
+    ensures { λ r. ⌜ r ≡ length (importsBytes (scope op (now (card .entry)) (now (root .entry)) (now (chain .entry))) (now (work .entry)) n) ⌝ }
+{
+    let mut none: [u8; 1] = [0];
+    importing::write_imports(op, card, root, chain, work, n, &mut none[..0])
+}
+
+// By the outermost module's table, which has so many pairs, where so many bytes are lent.
+pub fn is_roomy(
+    op: Shortening,
+    card: &[u8],
+    root: &[u8],
+    chain: &[usize],
+    lent: usize,
+    work: &[u32],
+    pairs: usize,
+) -> bool
+    ensures { λ r. ⌜ r ≡ isRoomy (scope op (now (card .entry)) (now (root .entry)) (now (chain .entry))) lent (table pairs (now (work .entry))) ⌝ }
+{
+    let most = chains::room(work);
+    if most < pairs {
+        return false;
+    }
+    if lent < card.len() {
+        return false;
+    }
+    let over = lent - card.len();
+    let grown = growth::growth(op, card);
+    if over < grown {
+        return false;
+    }
+    let k = tables::own_words(work, pairs);
+    if over - grown < uses_length(op, card, root, chain, &work[..k], pairs) {
+        return false;
+    }
+    has_few(card, most)
+}

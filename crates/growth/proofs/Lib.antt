@@ -1,0 +1,5 @@
+pub mod Most
+pub mod Tests
+pub mod Turns
+pub mod Walked
+pub mod Grown

@@ -1,0 +1,53 @@
+-- How much longer than its card an output can be, whatever its tables say: every path type grows by its synonyms, and every path in a nested module by a use.
+-- The outermost module's uses are not counted: its table says them. Over a card's bytes, whatever they are. Assumes nothing: these are definitions.
+use mathlib.Core.Bool.{Bool, false, _||_, cond}
+use mathlib.Core.List.{List, [], _∷_}
+use Prim.Native.Nat.{ℕ, zero, suc, _+_, _*_}
+use lib.ListN.{length}
+use lib.Dec.{eqb, ltb}
+use Rattle.wire.specs.Numbers.{Bytes}
+use Rattle.records.specs.Record.{isLeaf, kindOf, contentOf}
+use Rattle.records.specs.Kinds.{stands, path, type, expr}
+use Rattle.factor_paths.specs.Walk.{deeper}
+use Rattle.operation.specs.declared.Shortening.{Shortening}
+use Rattle.operation.specs.Operations.{operationOf}
+use Rattle.rewriting.specs.Replaces.{nameIn}
+use Rattle.rewriting.specs.Rewrites.{partsOf, counted, uncounted}
+
+-- a Text, a Kept, a path, a use: nothing in it grows
+abbrev pub isFixed : ℕ → Bool
+isFixed k = isLeaf k || stands path k || eqb k 0x6A || eqb k 0x80
+
+-- how often a path type is wrapped in a record of kind k
+abbrev pub wrapsIn : Bool → (w k : ℕ) → ℕ
+wrapsIn again w k = cond (stands type k || stands expr k) (deeper again w) w
+
+-- a use is 13 bytes longer than a record that holds its path; where uses are charged, each such record is charged one
+abbrev pub useOf : Bool → ℕ → ℕ
+useOf charged n = cond charged (13 + n) 0
+
+unfoldable pub sum : (Bytes → ℕ) → List Bytes → ℕ
+sum f [] = 0
+sum f (r ∷ rs) = f r + sum f rs
+
+module _ (op : Shortening) where
+  -- a record that goes at most so deep; w is how often a path type is wrapped
+  unfoldable pub growth : ℕ → (charged again : Bool) → (w : ℕ) → Bytes → ℕ
+  growth zero charged again w r = 0
+  growth (suc depth) charged again w r =
+      let k : ℕ = kindOf r in
+      let c : Bytes = contentOf r in
+      cond (isFixed k) 0
+      (cond (eqb k 0x2D) (w * (18 + length (nameIn r)) + useOf charged (length r))
+      (cond (eqb k 0x5C) (useOf charged (length r))
+      (cond (eqb k 0x7D)
+      (sum (growth depth charged false 1) (partsOf (uncounted c)) + sum (growth depth charged (operationOf op .walksAgain) 1) (partsOf (counted c)))
+      (sum (growth depth (charged || eqb k 0x62) again (wrapsIn again w k)) (partsOf c)))))
+
+  -- the records in some bytes
+  unfoldable pub growthAll : ℕ → (charged again : Bool) → (w : ℕ) → Bytes → ℕ
+  growthAll depth charged again w c = sum (growth depth charged again w) (partsOf c)
+
+  -- a whole card; nothing of one whose places do not fit a half word
+  unfoldable pub cardGrowth : Bytes → ℕ
+  cardGrowth card = cond (ltb 65536 (length card)) 0 (growthAll 48 false false 1 card)

@@ -7,6 +7,5 @@ ghost use Rattle.console.specs.Packed.{PackedPromise};
 pub extern "C" fn vegashol_shorten(card: &[u8], root: &[u8], out: &mut [u8]) -> u64
     ensures { λ r. ⌜ PackedPromise (now (card .entry)) (now (root .entry)) (now (out .entry)) r (now (out .exit)) ⌝ }
 {
-    let mut work: [u32; 2048] = [0; 2048];
-    answers::packed(shortening::shorten(card, root, out, &mut work))
+    answers::packed(shortening::shorten_alone(card, root, out))
 }

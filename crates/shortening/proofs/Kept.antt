@@ -19,15 +19,14 @@ use Rattle.rast.specs.Operation.{upstream}
 use Rattle.rast.proofs.Tests.{by-test}
 use Rattle.outcome.specs.Outcome.{Outcome, admitted, shorten}
 use Rattle.outcome.proofs.Accepted.{admitted-sound}
-use Rattle.points.specs.Points.{NamesHold}
 use Rattle.points.proofs.Demand.{demand-3}
 use Rattle.operation.specs.declared.Shortening.the-variants.{Upstream}
 use Rattle.chains.specs.Chains.{room}
 use Rattle.measuring.specs.declared.Written.{Written}
 use Rattle.measuring.specs.declared.Written.the-variants.{Full, Length}
-use Rattle.measuring.specs.Measured.{Output, output, wholeOutput}
-use Rattle.measuring.proofs.Sound.{FullAt, Bytes′, OutAfter, Result, whole-sound}
-use Rattle.shortening.specs.Shortened.{answerOf, outcome, Promise}
+use Rattle.measuring.specs.Measured.{output, wholeOutput}
+use Rattle.measuring.proofs.Sound.{FullAt, Bytes′, Result, few-full, whole-sound}
+use Rattle.shortening.specs.Shortened.{answerOf, outcome, Promise, Alone, Admitted}
 
 -- an outcome that is the definition's keeps the promise
 promised : (card root out : Bytes) (work : List ℕ) (a : Answer) (out′ : Bytes) (work′ : List ℕ) → ((i : ℕ) → getD card i 0 < 256) →
@@ -39,6 +38,41 @@ promised card root out work a out′ work′ bc br e =
       names = λ n h. rw (← ap (λ (o : Outcome). o .out) e) at
           (demand-3 card root out work n (are-bytes card bc) (are-bytes root br) (ap (λ (o : Outcome). o .answer) (sym e) ∙ h));
     }
+
+-- what is made of a card that is admitted, by words that have room for as many pairs as there may be, or for all that the card can have
+module _ (card root out : Bytes) (work : List ℕ) (bc : (i : ℕ) → getD card i 0 < 256) (br : (i : ℕ) → getD root i 0 < 256)
+    (is-sound : admitted upstream card root (length work) ≡ Sound) (words : List ℕ)
+    (enough-words : FullAt Upstream card root (length work) is-sound bc br (room words) ≡ FullAt Upstream card root (length work) is-sound bc br 512) where
+  abbrev Whole : Bytes
+  Whole = Bytes′ Upstream card root (length work) is-sound bc br
+
+  abbrev Place : Option ℕ
+  Place = FullAt Upstream card root (length work) is-sound bc br 512
+
+  room-same : length Whole ≤ length out → length (Whole ++ drop (length Whole) out) ≡ length out
+  room-same l = let a = length-append Whole (drop (length Whole) out) in let b = length-drop (length Whole) out in omega arith
+
+  module _ (w : Written) (out′ : Bytes) (words′ : List ℕ) (o : output w out′ words′ ≡ wholeOutput Upstream card root words out) where
+    result : Result Upstream card root (length work) is-sound bc br words out (output w out′ words′)
+    result = rw o (whole-sound Upstream card root (length work) is-sound bc br words out)
+
+    answer-is : (x : Option ℕ) → Place ≡ x → w ≡ whether x (Length (length Whole)) Full
+    answer-is x q = result .answer-is ∙ ap (λ (y : Option ℕ). whether y (Length (length Whole)) Full) (enough-words ∙ q)
+
+    out-is : (x : Option ℕ) → Place ≡ x → out′ ≡ whether x (cond (ltb (length out) (length Whole)) out (Whole ++ drop (length Whole) out)) (λ place. out)
+    out-is x q = result .out-is ∙ ap (λ (y : Option ℕ). whether y (cond (ltb (length out) (length Whole)) out (Whole ++ drop (length Whole) out))
+        (λ place. out)) (enough-words ∙ q)
+
+    is-outcome : (x : Option ℕ) → Place ≡ x → outcome (answerOf w (length out′)) out′ (replicate (length work) 0) ≡ shorten upstream card root out work
+    unfolding shorten
+    is-outcome none q =
+        rw (out-is none q, answer-is none q, is-sound, q)
+        (by-test (ltb (length out) (length Whole)) (λ t. rw (t, t))
+        (λ t. rw (t, room-same (ltb-false (length out) (length Whole) t), t)))
+    is-outcome (some place) q = rw (out-is (some place) q, answer-is (some place) q, is-sound, q)
+
+    made : outcome (answerOf w (length out′)) out′ (replicate (length work) 0) ≡ shorten upstream card root out work
+    made = is-outcome Place refl
 
 module _ (card root out : Bytes) (work : List ℕ) (bc : (i : ℕ) → getD card i 0 < 256) (br : (i : ℕ) → getD root i 0 < 256)
     (v : Verdict) (e : v ≡ admitted upstream card root (length work)) where
@@ -60,47 +94,57 @@ module _ (card root out : Bytes) (work : List ℕ) (bc : (i : ℕ) → getD card
     most = ap (λ (n : ℕ). min (n / 4) 65535) (sym lent)
 
     module _ (w : Written) (out′ : Bytes) (words : List ℕ) (o : output w out′ words ≡ wholeOutput Upstream card root (take 2048 work) out) where
-      result : Result Upstream card root (length work) is-sound bc br (take 2048 work) out (output w out′ words)
-      result = rw o (whole-sound Upstream card root (length work) is-sound bc br (take 2048 work) most out)
-
       words-all : length (words ++ drop 2048 work) ≡ length work
       words-all =
-          let a = result .words-long in
+          let r = rw (← o) at (whole-sound Upstream card root (length work) is-sound bc br (take 2048 work) out) in
+          let a : length words ≡ length (take 2048 work) = r .words-long in
           let b = length-append words (drop 2048 work) in
           let c = length-drop 2048 work in
           let d = enough in
           let f = lent in
           omega arith
 
-      abbrev Whole : Bytes
-      Whole = Bytes′ Upstream card root (length work) is-sound bc br
-
-      abbrev Place : Option ℕ
-      Place = FullAt Upstream card root (length work) is-sound bc br
-
-      answer-is : (x : Option ℕ) → Place ≡ x → w ≡ whether x (Length (length Whole)) Full
-      answer-is x q = result .answer-is ∙ ap (λ (y : Option ℕ). whether y (Length (length Whole)) Full) q
-
-      out-is : (x : Option ℕ) → Place ≡ x → out′ ≡ whether x (cond (ltb (length out) (length Whole)) out (Whole ++ drop (length Whole) out)) (λ place. out)
-      out-is x q = result .out-is ∙ ap (λ (y : Option ℕ). whether y (cond (ltb (length out) (length Whole)) out (Whole ++ drop (length Whole) out))
-          (λ place. out)) q
-
-      room-same : length Whole ≤ length out → length (Whole ++ drop (length Whole) out) ≡ length out
-      room-same l = let a = length-append Whole (drop (length Whole) out) in let b = length-drop (length Whole) out in omega arith
-
-      is-outcome : (x : Option ℕ) → Place ≡ x → outcome (answerOf w (length out′)) out′ (replicate (length work) 0) ≡ shorten upstream card root out work
-      unfolding shorten
-      is-outcome none q =
-          rw (out-is none q, answer-is none q, is-sound, q)
-          (by-test (ltb (length out) (length Whole)) (λ t. rw (t, t))
-          (λ t. rw (t, room-same (ltb-false (length out) (length Whole) t), t)))
-      is-outcome (some place) q = rw (out-is (some place) q, answer-is (some place) q, is-sound, q)
-
       pub kept : (work′ : List ℕ) → work′ ≡ replicate (length (words ++ drop 2048 work)) 0 → (a : Answer) → a ≡ answerOf w (length out′)
           → Promise card root out work a out′ work′
       kept work′ z a f =
           promised card root out work a out′ work′ bc br
-          (rw (f, z ∙ ap (λ (n : ℕ). replicate n 0) words-all) (is-outcome Place refl))
+          (rw (f, z ∙ ap (λ (n : ℕ). replicate n 0) words-all)
+          (made card root out work bc br is-sound (take 2048 work) (ap (FullAt Upstream card root (length work) is-sound bc br) most) w out′ words o))
+
+-- by words of its own
+abbrev own-words : List ℕ
+own-words = replicate 2048 0
+
+alone : (card root out : Bytes) (a : Answer) (out′ : Bytes) (work′ : List ℕ) → Promise card root out own-words a out′ work′ → Alone card root out a out′
+alone card root out a out′ work′ p =
+    record {
+      answer-is = ap (λ (o : Outcome). o .answer) (p .fixed);
+      out-is = ap (λ (o : Outcome). o .out) (p .fixed);
+      names = p .names;
+    }
+
+module _ (card root out : Bytes) (bc : (i : ℕ) → getD card i 0 < 256) (br : (i : ℕ) → getD root i 0 < 256) where
+  pub alone-refused : (v : Verdict) → v ≡ admitted upstream card root 2048 → (a : Answer) → v ≡ Refused a → Alone card root out a out
+  alone-refused v e a h = alone card root out a out own-words (refused card root out own-words bc br v e a h)
+
+  module _ (is-sound : Admitted card root) where
+    abbrev Enough : List ℕ → Type 0
+    Enough words = FullAt Upstream card root 2048 is-sound bc br (room words) ≡ FullAt Upstream card root 2048 is-sound bc br 512
+
+    pub many-enough : Enough own-words
+    many-enough = refl
+
+    -- neither has more pairs than there is room for
+    pub few-enough : length card ≤ 593 → Enough (replicate 128 0)
+    few-enough l =
+        few-full Upstream card root 2048 is-sound bc br 32 (omega arith) ∙ sym (few-full Upstream card root 2048 is-sound bc br 512 (omega arith))
+
+    pub alone-kept : (words : List ℕ) → Enough words → (w : Written) (out′ : Bytes) (words′ : List ℕ)
+        → output w out′ words′ ≡ wholeOutput Upstream card root words out → (a : Answer) → a ≡ answerOf w (length out′) → Alone card root out a out′
+    alone-kept words n w out′ words′ o a f =
+        alone card root out a out′ own-words
+        (promised card root out own-words a out′ own-words bc br
+        (rw f (made card root out own-words bc br is-sound words n w out′ words′ o)))
 
 -- the answer, case by case
 pub answer-full : (w : Written) (place lent : ℕ) → w ≡ Full place → FullTable place ≡ answerOf w lent

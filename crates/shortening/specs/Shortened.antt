@@ -3,13 +3,14 @@ use mathlib.Core.Path.{_≡_}
 use mathlib.Core.Bool.{cond}
 use mathlib.Core.List.{List}
 use Prim.Native.Nat.{ℕ}
-use lib.ListN.{take}
+use lib.ListN.{take, replicate}
 use lib.Dec.{ltb}
 use Rattle.answers.specs.declared.Answer.{Answer}
 use Rattle.answers.specs.declared.Answer.the-variants.{Shortened, FullTable, NoSpace}
 use Rattle.wire.specs.Numbers.{Bytes}
 use Rattle.rast.specs.Operation.{upstream}
-use Rattle.outcome.specs.Outcome.{Outcome, shorten}
+use Rattle.answers.specs.declared.Verdict.the-variants.{Sound}
+use Rattle.outcome.specs.Outcome.{Outcome, admitted, shorten}
 use Rattle.points.specs.Points.{NamesHold}
 use Rattle.measuring.specs.declared.Written.{Written}
 use Rattle.measuring.specs.declared.Written.the-variants.{Full, Length}
@@ -27,3 +28,13 @@ pub record Promise (card root out : Bytes) (work : List ℕ) (answer : Answer) (
   pub fixed : outcome answer out′ work′ ≡ shorten upstream card root out work
   -- demand 3: where it accepts, every shortened name, looked up, gives back the path that stood there, and nothing else changed
   pub names : (n : ℕ) → answer ≡ Shortened n → NamesHold upstream card root (take n out′)
+
+-- the same, where the work words are its own: with 2,048 of them, which are zero
+pub record Alone (card root out : Bytes) (answer : Answer) (out′ : Bytes) : Type 0 where
+  pub answer-is : answer ≡ shorten upstream card root out (replicate 2048 0) .answer
+  pub out-is : out′ ≡ shorten upstream card root out (replicate 2048 0) .out
+  pub names : (n : ℕ) → answer ≡ Shortened n → NamesHold upstream card root (take n out′)
+
+-- what such a call goes on with: a card and a root that are admitted
+abbrev pub Admitted : (card root : Bytes) → Type 0
+Admitted card root = admitted upstream card root 2048 ≡ Sound

@@ -4,7 +4,9 @@ use answers::Verdict;
 use measuring::Written;
 use operation::Shortening;
 ghost use mathlib.Core.Path.{_≡_};
-ghost use Rattle.shortening.specs.Shortened.{answerOf, Promise};
+ghost use Prim.Native.Nat.{_≤_};
+ghost use lib.ListN.{length};
+ghost use Rattle.shortening.specs.Shortened.{answerOf, Promise, Alone, Admitted};
 
 // The answer to what was measured, with so many bytes lent for the output.
 fn answer_of(w: Written, lent: usize) -> Answer
@@ -35,4 +37,40 @@ pub fn shorten(card: &[u8], root: &[u8], out: &mut [u8], work: &mut [u32]) -> An
     let w = measuring::write(Shortening::Upstream, card, root, out, &mut work[..2048]);
     work::clear(work);
     answer_of(w, out.len())
+}
+
+// By 128 work words: a card of fewer than 594 bytes has at most 32 pairs.
+fn shorten_small(card: &[u8], root: &[u8], out: &mut [u8]) -> Answer
+    requires { ⌜ Admitted (now card) (now root) × (length (now card) ≤ 593) ⌝ }
+    ensures { λ r. ⌜ Alone (now (card .entry)) (now (root .entry)) (now (out .entry)) r (now (out .exit)) ⌝ }
+{
+    let mut work: [u32; 128] = [0; 128];
+    let w = measuring::write(Shortening::Upstream, card, root, out, &mut work);
+    answer_of(w, out.len())
+}
+
+fn shorten_large(card: &[u8], root: &[u8], out: &mut [u8]) -> Answer
+    requires { ⌜ Admitted (now card) (now root) ⌝ }
+    ensures { λ r. ⌜ Alone (now (card .entry)) (now (root .entry)) (now (out .entry)) r (now (out .exit)) ⌝ }
+{
+    let mut work: [u32; 2048] = [0; 2048];
+    let w = measuring::write(Shortening::Upstream, card, root, out, &mut work);
+    answer_of(w, out.len())
+}
+
+// With work words of its own: what `shorten` answers with 2048. They are made once the card is known to need them, and nobody sees them after the call.
+pub fn shorten_alone(card: &[u8], root: &[u8], out: &mut [u8]) -> Answer
+    ensures { λ r. ⌜ Alone (now (card .entry)) (now (root .entry)) (now (out .entry)) r (now (out .exit)) ⌝ }
+{
+    let v = admission::admit(card, root, 2048);
+    match v {
+        Verdict::Sound => {}
+        Verdict::Refused(a) => {
+            return a;
+        }
+    }
+    if card.len() < 594 {
+        return shorten_small(card, root, out);
+    }
+    shorten_large(card, root, out)
 }

@@ -1,7 +1,7 @@
 -- What the functions over pairs and chains answer, test by test. Assumes nothing.
 use mathlib.Core.Path.{_≡_, refl, sym, ap, _∙_}
 use mathlib.Core.List.{List}
-use mathlib.Core.Bool.{Bool, true, false, not, _&&_, _||_, cond}
+use mathlib.Core.Bool.{Bool, true, false, not, _||_, cond, and-false}
 use Prim.Native.Nat.{ℕ, zero, suc, _+_, _-_, _*_, _/_, _%_, _^_, _<_, _≤_}
 use native.Mathlib.Omega.{arith}
 use lib.ListN.{take, drop, getD}
@@ -14,10 +14,10 @@ use Rattle.rast.proofs.Tests.{by-test}
 use Rattle.operation.specs.declared.Shortening.{Shortening}
 use Rattle.operation.specs.Operations.{operationOf}
 use Rattle.prefix.specs.Prefix.{Scope}
-use Rattle.comparing.specs.Compares.{hash, placeIn, sameBase}
+use Rattle.comparing.specs.Compares.{hash, placeIn, tagIn, sameBase}
 use Rattle.chains.specs.declared.Want.{Want}
 use Rattle.chains.specs.declared.Want.the-variants.{Named, Based, Runtime}
-use Rattle.chains.specs.Chains.{room, nameAt, wordAt, linkAt, headAt, bucketOf, headOf, nextOf, hasWanted, isWanted, seekFrom, seek}
+use Rattle.chains.specs.Chains.{room, nameAt, wordAt, linkAt, bucketOf, headOf, nextOf, hasWanted, isOther, isWanted, seekFrom, seek}
 
 module _ (op : Shortening) (words : List ℕ) (name : Bytes) (n : ℕ) (e : n ≡ room words) where
   pub bucket-none : n ≡ 0 → 0 ≡ bucketOf op words name
@@ -72,7 +72,40 @@ next-less words g h = go (eqb g 0 || ltb (room words) g) (linkAt words (g - 1))
     go true l = h
     go false l = inner l (ltb l g) refl
 
+-- a base that is not the sought one by the words alone
+pub other-unbased : (want : Want) (w : ℕ) → ((v : ℕ) → want ≡ Based v → ⊥) → false ≡ isOther want w
+unfolding isOther
+other-unbased Named w n = refl
+other-unbased (Based v) w n = absurd (n v refl)
+other-unbased Runtime w n = refl
+
+module _ (want : Want) (w v : ℕ) (e : want ≡ Based v) where
+  pub other-prefix : w % 65536 ≡ 0 → false ≡ isOther want w
+  unfolding isOther
+  other-prefix z = rw (e, eq-eqb (w % 65536) 0 z)
+
+  module _ (n : w % 65536 ≡ 0 → ⊥) where
+    pub other-sought-prefix : v % 65536 ≡ 0 → false ≡ isOther want w
+    unfolding isOther
+    other-sought-prefix z = rw (e, ne-eqb (w % 65536) 0 n, eq-eqb (v % 65536) 0 z)
+
+    pub other-paths : (v % 65536 ≡ 0 → ⊥) → not (eqb (w / 65536) (v / 65536)) ≡ isOther want w
+    unfolding isOther
+    other-paths m = rw (e, ne-eqb (w % 65536) 0 n, ne-eqb (v % 65536) 0 m)
+
 module _ (s : Scope) where
+  -- what is not the sought base by the words alone is not the sought base
+  pub other-not : (want : Want) (w : ℕ) → isOther want w ≡ true → hasWanted s want w ≡ false
+  unfolding isOther hasWanted sameBase
+  other-not Named w e = sym e
+  other-not (Based v) w e = rw (not-true (eqb (placeIn w) 0 || (eqb (placeIn v) 0 || eqb (tagIn w) (tagIn v))) e)
+  other-not Runtime w e = cc
+
+  pub wanted-passed : (words : List ℕ) (name : Bytes) (want : Want) (i w : ℕ) (t : Bool) → w ≡ wordAt words i → t ≡ isOther want w → t ≡ true
+      → false ≡ isWanted s words name want i
+  unfolding isWanted
+  wanted-passed words name want i w t h e y = rw (← h, other-not want w (sym e ∙ y), and-false)
+
   module _ (want : Want) (w : ℕ) where
     pub wanted-named : want ≡ Named → true ≡ hasWanted s want w
     unfolding hasWanted

@@ -1,6 +1,6 @@
 -- Pairs in work words, four to a pair, and chains of those whose names have the same hash. Assumes nothing: these are definitions.
 use mathlib.Core.List.{List}
-use mathlib.Core.Bool.{Bool, true, not, _&&_, _||_, cond}
+use mathlib.Core.Bool.{Bool, true, false, not, _&&_, _||_, cond}
 use Prim.Native.Nat.{ℕ, zero, suc, _+_, _-_, _*_, _/_, _%_, min}
 use lib.ListN.{length, take, drop, getD}
 use lib.Dec.{eqb, ltb}
@@ -10,7 +10,7 @@ use Rattle.rast.specs.Path.{«dafny_runtime»}
 use Rattle.operation.specs.declared.Shortening.{Shortening}
 use Rattle.operation.specs.Operations.{operationOf}
 use Rattle.prefix.specs.Prefix.{Scope}
-use Rattle.comparing.specs.Compares.{hash, placeIn, sameBase}
+use Rattle.comparing.specs.Compares.{hash, placeIn, tagIn, sameBase}
 use Rattle.chains.specs.declared.Want.{Want}
 use Rattle.chains.specs.declared.Want.the-variants.{Named, Based, Runtime}
 
@@ -40,6 +40,12 @@ headOf words b = cond (ltb b (room words)) (headAt words b) 0
 
 unfoldable pub nextOf : List ℕ → ℕ → ℕ
 nextOf words g = cond (eqb g 0 || ltb (room words) g) 0 (cond (ltb (linkAt words (g - 1)) g) (linkAt words (g - 1)) 0)
+
+-- whether a base, as a word, is another than the one that is sought by the words alone: paths of the card with different numbers
+unfoldable pub isOther : Want → ℕ → Bool
+isOther Named w = false
+isOther (Based v) w = not (eqb (placeIn w) 0 || (eqb (placeIn v) 0 || eqb (tagIn w) (tagIn v)))
+isOther Runtime w = false
 
 module _ (s : Scope) where
   -- what is sought of a base, as a word: nothing; that it is the same as another; that it is dafny_runtime, as a path of the card

@@ -5,7 +5,7 @@ use operation::Shortening;
 ghost use mathlib.Core.Path.{_≡_};
 ghost use Prim.Native.Nat.{_-_, _<_, _≤_};
 ghost use Rattle.prefix.specs.Prefix.{scope};
-ghost use Rattle.chains.specs.Chains.{room as Chains·room, bucketOf, headOf, nextOf, hasWanted, isWanted, seek as Chains·seek};
+ghost use Rattle.chains.specs.Chains.{room as Chains·room, bucketOf, headOf, nextOf, hasWanted, isOther, isWanted, seek as Chains·seek};
 
 // How many pairs words have room for: the number of a pair fits a half word.
 pub fn room(work: &[u32]) -> usize
@@ -95,7 +95,23 @@ fn has_wanted(
     paths::is_runtime(reader::record_at(card, at))
 }
 
-// Whether pair g has this name and what is sought. Names come first: most pairs differ there.
+// Whether a base, as a word, is surely not the one that is sought: both are paths of the card, and the numbers above their places differ.
+fn is_other(want: Want, w: usize) -> bool
+    ensures { λ r. ⌜ r ≡ isOther want w ⌝ }
+{
+    let Want::Based(v) = want else {
+        return false;
+    };
+    if w % 65536 == 0 {
+        return false;
+    }
+    if v % 65536 == 0 {
+        return false;
+    }
+    w / 65536 != v / 65536
+}
+
+// Whether pair g has this name and what is sought. The number of the base comes first: under one name there can be many bases.
 fn is_wanted(
     op: Shortening,
     card: &[u8],
@@ -111,11 +127,15 @@ fn is_wanted(
         ≡ isWanted (scope op (now (card .entry)) (now (root .entry)) (now (chain .entry))) (now (work .entry)) (now (name .entry)) want (g - 1) ⌝ }
 {
     let k = 4 * (g - 1);
+    let w = wire::word(work[k + 2]);
+    if is_other(want, w) {
+        return false;
+    }
     let own = wire::part(card, wire::word(work[k]), wire::word(work[k + 1]));
     if !comparing::same_name(op, own, name) {
         return false;
     }
-    has_wanted(op, card, root, chain, want, wire::word(work[k + 2]))
+    has_wanted(op, card, root, chain, want, w)
 }
 
 // The first pair of the chain from pair g on that has this name and what is sought.

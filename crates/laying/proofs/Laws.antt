@@ -3,9 +3,10 @@ use mathlib.Core.Path.{_≡_, refl, sym, ap, _∙_}
 use mathlib.Core.List.{[], _∷_, _++_, append-nil, append-assoc}
 use Prim.Native.Nat.{ℕ, zero, suc, _+_, _<_, _≤_, _-_, _/_, _%_, min}
 use native.Mathlib.Nat.{zero-add, suc-add, le-of-suc-le-suc, not-suc-le-zero}
+use native.Mathlib.Numerals.{add-one}
 use native.Mathlib.Omega.{arith, min-cases}
-use lib.ListN.{length, set, take, drop, length-append, length-drop}
-use lib.Seq.{drop-length}
+use lib.ListN.{length, set, take, drop, length-append, length-drop, length-set}
+use lib.Seq.{drop-length, sets}
 use Rattle.wire.specs.Numbers.{Bytes, le}
 use Rattle.records.specs.Record.{recordBytes}
 use Rattle.records.proofs.Tree.{record-length}
@@ -52,6 +53,13 @@ unfolding lay
 lay-set [] at v h = absurd (not-suc-le-zero h)
 lay-set (x ∷ out) zero v h = ap (λ (l : Bytes). v ∷ l) (sym (lay-nil out zero))
 lay-set (x ∷ out) (suc at) v h = ap (λ (l : Bytes). x ∷ l) (lay-set out at v (le-of-suc-le-suc h))
+
+-- bytes stored one after the other, where they have room
+pub lay-sets : (out : Bytes) (at : ℕ) (b : Bytes) → at + length b ≤ length out → sets out at b ≡ lay out at b
+lay-sets out at [] h = sym (lay-nil out at)
+lay-sets out at (v ∷ b) h =
+    lay-sets (set out at v) (suc at) b (simp length-set (omega arith))
+    ∙ rw (lay-set out at v (omega arith), ← add-one at) (lay-behind out at (v ∷ []) b)
 
 -- laying over the part from a place on is laying over the whole from there on
 part-inside : (out : Bytes) (at : ℕ) (b : Bytes) → at ≤ length out → take at out ++ lay (drop at out) 0 b ≡ lay out at b

@@ -6,7 +6,7 @@ use mathlib.Core.Option.{none, Option·none-ne-some}
 use Prim.Native.Nat.{ℕ, zero, suc, _+_, _-_, _*_, _/_, _<_, _≤_, min}
 use native.Mathlib.Nat.{add-zero, le-refl}
 use native.Mathlib.Omega.{arith}
-use lib.ListN.{length, take, length-append, length-drop, take-append-drop}
+use lib.ListN.{length, take, length-append, length-drop}
 use lib.Seq.{length-take-le, take-append-seam}
 use lib.Dec.{eqb, ltb}
 use borrow.Author.Tests.{eqb-true, leb-true, ltb-true, ltb-false, lt-ltb, le-ltb}
@@ -46,13 +46,13 @@ use Rattle.gathering.specs.Tabled.{Tabled}
 use Rattle.gathering.proofs.Parts.{spansOf, spans-are}
 use Rattle.gathering.proofs.Mapped.{module-tabled}
 use Rattle.gathering.proofs.Chosen.{uses-final}
-use Rattle.tables.specs.Tables.{tableOf, hasRoom}
+use Rattle.tables.specs.Tables.{tableOf, hasRoom, isSmall, lastWords}
 use Rattle.tables.proofs.Owner.{owner-has}
 use Rattle.rewriting.specs.Imports.{importsBytes}
 use Rattle.rewriting.specs.Rewrites.{declaration}
 use Rattle.rewriting.proofs.Walks.{rewrite-walks}
-use Rattle.modules.specs.Modules.{Made, made, nestedMade, besideMade, innerMade, eachMade, modMade, declarationMade, bodyMade, moduleMade}
-use Rattle.modules.proofs.Keeps.{table-length}
+use Rattle.modules.specs.Modules.{Made, made, nestedMade, savedMade, besideMade, innerMade, eachMade, modMade, declarationMade, bodyMade, moduleMade}
+use Rattle.modules.proofs.Keeps.{table-length, beside-length, held-length}
 use Rattle.modules.proofs.Inner.{ends-within, inner-prefix, inner-canonical}
 use Rattle.modules.proofs.Contents.{span-there, alone-kind, holds-one, one-ends, Mod, Ahead, mod-content, ahead-is, body-ends, body-starts, mod-whole}
 use Rattle.modules.proofs.States.{found, Ready, settled-ready, Holds, holds-on, After, same, other, scopeAt, Stands, Applied, walked, Declared, Declares}
@@ -95,6 +95,17 @@ ready-beside s t a words r h e =
 room-has : (held : Table) (n : ℕ) {k : ℕ} → hasRoom held n ≡ true → k ≤ n → k / 18 ≤ room (freeWords held)
 unfolding hasRoom
 room-has held n e l = let g = leb-true (n / 18) (room (freeWords held)) e in omega arith
+
+-- the last words, for what is small
+last-has : (held : Table) (n : ℕ) {k : ℕ} → isSmall held n ≡ true → k ≤ n
+    → (length (lastWords held n) ≤ length (held .words)) × (k / 18 ≤ room (lastWords held n))
+unfolding isSmall lastWords
+last-has held n e l =
+    let g = and-eq-true-iff _ _ .0 e in
+    let a = leb-true (n / 18) 64 (g .0) in
+    let b = leb-true (4 * (n / 18)) (length (held .words)) (g .1) in
+    let d = length-drop (length (held .words) - 4 * (n / 18)) (held .words) in
+    (omega arith, omega arith)
 
 -- what is made of a module that goes at most so deep, by so many words
 abbrev Law : Shortening → (card root : Bytes) → (wide depth : ℕ) → Type 0
@@ -246,48 +257,61 @@ module _ (op : Shortening) (card root : Bytes) (small : length card ≤ 65536) (
               holds = rw e (nested-holds owner held s (Nested owner held) (i .after));
             }
 
-        -- beside the module's table: no module in it has too many pairs for the words that are left
-        abbrev Beside : Table → Made
-        Beside held = Nested 65537 (table 0 (freeWords held))
-
-        beside : deep q ≤ depth → deep q ≤ n → (held : Table) → length (held .words) ≡ wide → State from at held
-            → length (encode q) / 18 ≤ room (freeWords held) → Nesting (besideMade at held (Beside held))
-        unfolding besideMade walkDecl setNth first encodeAll nth
-        beside l k held w s r =
+        -- with some of the words: no module in it has too many pairs for them, and the module's table is ready afterwards
+        lent : deep q ≤ depth → deep q ≤ n → (words : List ℕ) → length words ≤ wide → length (encode q) / 18 ≤ room words → (after : Table)
+            → length (after .words) ≡ wide → Ready Scoped after Mapped → Nesting (savedMade at after (Nested 65537 (table 0 words)))
+        unfolding savedMade walkDecl setNth first encodeAll nth
+        lent l k words few-words r after w t =
             let c = chain-length in
             let e = one-ends 0x62 q from in
-            let t = s .tabled refl in
-            let fit = fits-room held t w in
-            let free = freeWords held in
-            let u = length-drop (4 * held .count) (held .words) in
             let inside = ends-within card from (node 0x62 (q ▸ nil)) st in
-            let i = below (length free) n Chain (omega arith) (from + 6) q Prefix stands l k 65537 (table 0 free) refl (λ z. absurd (omega arith)) in
-            let less = few-none Op (room free) n q Prefix (from + 6) f r in
+            let i = below (length words) n Chain (omega arith) (from + 6) q Prefix stands l k 65537 (table 0 words) refl (λ z. absurd (omega arith)) in
+            let less = few-none Op (room words) n q Prefix (from + 6) f r in
             let none-full = few-none Op Most n q Prefix (from + 6) f (let z : length (encode q) / 18 ≤ Most = omega arith in z) in
-            let long : length (ownWords held ++ Beside held .held .words) ≡ length (held .words) =
-            length-append (ownWords held) (Beside held .held .words) ∙ ap (λ (x : ℕ). length (ownWords held) + x) (i .words)
-            ∙ sym (length-append (ownWords held) free) ∙ ap length (take-append-drop (4 * held .count) (held .words)) in
             record {
               full = rw add-zero (i .full ∙ ap found less ∙ sym (ap found none-full));
               bytes = λ z. ap (recordBytes 0x62) (i .bytes less) ∙ holds-one 0x62 (applyPrefix Op n q Prefix);
-              words = long ∙ w;
-              holds = rw e
-                  (record {
-                    from = le-refl at;
-                    before = omega arith;
-                    tabled = λ z. ready-beside Scoped held Mapped (Beside held .held .words) fit t long;
-                  });
+              words = w;
+              holds = rw e (record { from = le-refl at; before = omega arith; tabled = λ z. t });
             }
+
+        -- with the last words, which are put back
+        saved : deep q ≤ depth → deep q ≤ n → (held : Table) → length (held .words) ≡ wide → Ready Scoped held Mapped → (size : ℕ) → length (encode q) ≤ size
+            → isSmall held size ≡ true → Nesting (savedMade at held (Nested 65537 (table 0 (lastWords held size))))
+        saved l k held w t size e g =
+            let h = last-has held size g e in
+            lent l k (lastWords held size) (omega (arith, h .0)) (h .1) held w t
+
+        -- beside the module's table
+        abbrev Beside : Table → Made
+        Beside held = Nested 65537 (table 0 (freeWords held))
+
+        beside : deep q ≤ depth → deep q ≤ n → (held : Table) → length (held .words) ≡ wide → Ready Scoped held Mapped
+            → length (encode q) / 18 ≤ room (freeWords held) → Nesting (besideMade at held (Beside held))
+        unfolding besideMade
+        beside l k held w t r =
+            let u = length-drop (4 * held .count) (held .words) in
+            let words = Beside held .held .words in
+            let long = beside-length held words
+            (held-length op card root depth Chain (span (from + 6) (from + 6 + length (encode q))) 65537 (table 0 (freeWords held))) in
+            lent l k (freeWords held) (omega arith) r (table (held .count) (ownWords held ++ words)) (long ∙ w)
+            (ready-beside Scoped held Mapped words (fits-room held t w) t long)
 
         nested-declared : deep q ≤ depth → deep q ≤ n → (owner : ℕ) (held : Table) → length (held .words) ≡ wide → State from owner held
             → Nesting (innerMade (moduleMade op card root depth Chain) at (span from (from + 6 + length (encode q))) owner held)
         unfolding innerMade
         nested-declared l k owner held w s =
-            by-test (eqb owner at && hasRoom held (from + 6 + length (encode q) - from))
+            by-test (eqb owner at && isSmall held size)
             (λ t. let g = and-eq-true-iff _ _ .0 t in
-            let o : owner ≡ at = eqb-true owner at (g .0) in
-            rw t (beside l k held w (subst (λ (x : ℕ). State from x held) o s) (room-has held (from + 6 + length (encode q) - from) (g .1) (omega arith))))
-            (λ t. rw t (alone l k owner held w s))
+            rw t (saved l k held w (s .tabled (eqb-true owner at (g .0))) size (omega arith) (g .1)))
+            (λ t. rw t
+            (by-test (eqb owner at && hasRoom held size)
+            (λ t. let g = and-eq-true-iff _ _ .0 t in
+            rw t (beside l k held w (s .tabled (eqb-true owner at (g .0))) (room-has held size (g .1) (omega arith))))
+            (λ t. rw t (alone l k owner held w s))))
+          where
+            size : ℕ
+            size = from + 6 + length (encode q) - from
 
       -- either, of declarations that go less deep than the module by two
       declared : (most-deep : ℕ) → most-deep + 2 ≤ suc depth → most-deep + 2 ≤ suc n → (d : Record) (from : ℕ) → Fits d (kinds 0x62 0x6A) → Canonical d

@@ -30,12 +30,13 @@ use Rattle.choosing.specs.Picks.{usesOf}
 use Rattle.fields.specs.Fields.{namePlace}
 use Rattle.gathering.specs.Gathers.{Span, span, spansUpTo, spansIn}
 use Rattle.gathering.proofs.Spans.{between-length, span-fits}
-use Rattle.tables.specs.Tables.{tableOf, hasRoom}
+use Rattle.tables.specs.Tables.{tableOf, hasRoom, isSmall, lastWords}
 use Rattle.rewriting.specs.Imports.{importsBytes}
 use Rattle.rewriting.specs.Rewrites.{declaration}
 use Rattle.rewriting.proofs.Lengths.{content-inside}
 use Rattle.rewriting.proofs.Bound.{rewrite-bound}
-use Rattle.modules.specs.Modules.{Made, made, bodyIn, aheadIn, behind, nestedMade, besideMade, innerMade, eachMade, modMade, declarationMade, bodyMade, moduleMade}
+use Rattle.modules.specs.Modules.{Made, made, bodyIn, aheadIn, behind, nestedMade, savedMade, besideMade, innerMade, eachMade, modMade}
+use Rattle.modules.specs.Modules.{declarationMade, bodyMade, moduleMade}
 
 -- the uses: each has a name and a base that stand in the card
 same-self : (op : Shortening) (x : Bytes) → samePaths op x x ≡ true
@@ -176,15 +177,16 @@ module _ (op : Shortening) (card root : Bytes) (small : length card ≤ 65536) w
   module _ (f : List ℕ → Span → ℕ → Table → Made) (bounded : Bounded f) (depth : ℕ) (deep : depth ≤ 48) (chain : List ℕ) (at : ℕ) where
     pub inner-most : (from to : ℕ) → from + 6 ≤ to → to ≤ length card → (owner : ℕ) (held : Table)
         → length (innerMade (f chain) at (span from to) owner held .bytes) ≤ (to - from) * 2 ^ 32
-    unfolding innerMade besideMade nestedMade
+    unfolding innerMade savedMade besideMade nestedMade
     inner-most from to l h owner held =
-        let m = f chain (span (from + 6) to) owner held in
-        let b = f chain (span (from + 6) to) 65537 (table 0 (freeWords held)) in
-        let i = bounded chain (from + 6) to l h owner held in
-        let j = bounded chain (from + 6) to l h 65537 (table 0 (freeWords held)) in
-        let a = record-length 0x62 (m .bytes) in
-        let c = record-length 0x62 (b .bytes) in
-        one-of (Most ((to - from) * 2 ^ 32)) (eqb owner at && hasRoom held (to - from)) (omega arith) (omega arith)
+        one-of (Most ((to - from) * 2 ^ 32)) (eqb owner at && isSmall held (to - from)) (nested 65537 (table 0 (lastWords held (to - from))))
+        (one-of (Most ((to - from) * 2 ^ 32)) (eqb owner at && hasRoom held (to - from)) (nested 65537 (table 0 (freeWords held))) (nested owner held))
+      where
+        nested : (o : ℕ) (t : Table) → length (recordBytes 0x62 (f chain (span (from + 6) to) o t .bytes)) ≤ (to - from) * 2 ^ 32
+        nested o t =
+            let i = bounded chain (from + 6) to l h o t in
+            let a = record-length 0x62 (f chain (span (from + 6) to) o t .bytes) in
+            omega arith
 
     pub declaration-most : (from to : ℕ) → from + 6 ≤ to → to ≤ length card → (owner : ℕ) (held : Table)
         → length (declarationMade op card root f depth chain at (span from to) owner held .bytes) ≤ (to - from) * 2 ^ 32

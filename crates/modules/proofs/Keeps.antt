@@ -17,8 +17,9 @@ use Rattle.adding.proofs.Settles.{settled-table-length}
 use Rattle.fields.specs.Fields.{namePlace}
 use Rattle.gathering.specs.Gathers.{Span, span, spansIn, gathered}
 use Rattle.gathering.proofs.Keeps.{gathered-length}
-use Rattle.tables.specs.Tables.{tableOf, hasRoom}
-use Rattle.modules.specs.Modules.{Made, made, aheadIn, behind, nestedMade, besideMade, innerMade, eachMade, modMade, declarationMade, bodyMade, moduleMade}
+use Rattle.tables.specs.Tables.{tableOf, hasRoom, isSmall}
+use Rattle.modules.specs.Modules.{Made, made, aheadIn, behind, nestedMade, savedMade, besideMade, innerMade, eachMade, modMade}
+use Rattle.modules.specs.Modules.{declarationMade, bodyMade, moduleMade}
 
 pub table-length : (s : Scope) (left at owner : ℕ) (t : Table) → length (tableOf s left at owner t .words) ≡ length (t .words)
 unfolding tableOf
@@ -29,17 +30,25 @@ table-length s left at owner t =
 abbrev Keeps : (Span → ℕ → Table → Made) → Type 0
 Keeps f = (r : Span) (owner : ℕ) (held : Table) → length (f r owner held .held .words) ≡ length (held .words)
 
--- a nested module beside a table, or with all words
+-- as many words behind a table's pairs as were free
+pub beside-length : (held : Table) (words : List ℕ) → length words ≡ length (freeWords held) → length (ownWords held ++ words) ≡ length (held .words)
+beside-length held words e =
+    length-append (ownWords held) words ∙ ap (λ (x : ℕ). length (ownWords held) + x) e ∙ sym (length-append (ownWords held) (freeWords held))
+    ∙ ap length (take-append-drop (4 * held .count) (held .words))
+
+-- a nested module with the last words, beside a table, or with all words
 pub inner-length : (f : Span → ℕ → Table → Made) → Keeps f → (at : ℕ) (r : Span) (owner : ℕ) (held : Table)
     → length (innerMade f at r owner held .held .words) ≡ length (held .words)
-unfolding innerMade besideMade nestedMade
+unfolding innerMade savedMade besideMade nestedMade
 inner-length f k at r owner held =
     let inner = span (r .from + 6) (r .to) in
-    let b = f inner 65537 (table 0 (freeWords held)) in
-    one-of (λ (m : Made). length (m .held .words) ≡ length (held .words)) (eqb owner at && hasRoom held (r .to - r .from))
-    (length-append (ownWords held) (b .held .words) ∙ ap (λ (x : ℕ). length (ownWords held) + x) (k inner 65537 (table 0 (freeWords held)))
-    ∙ sym (length-append (ownWords held) (freeWords held)) ∙ ap length (take-append-drop (4 * held .count) (held .words)))
-    (k inner owner held)
+    let n = r .to - r .from in
+    let free = table 0 (freeWords held) in
+    one-of Kept (eqb owner at && isSmall held n) refl
+    (one-of Kept (eqb owner at && hasRoom held n) (beside-length held (f inner 65537 free .held .words) (k inner 65537 free)) (k inner owner held))
+  where
+    Kept : Made → Type 0
+    Kept m = length (m .held .words) ≡ length (held .words)
 
 pub each-length : (f : Span → ℕ → Table → Made) → Keeps f → (rs : List Span) (m : Made)
     → length (eachMade f rs m .held .words) ≡ length (m .held .words)

@@ -1,6 +1,6 @@
 -- A module written over the bytes of a card, whatever they are (01, applyPrefix): its uses, then its declarations, each module by its own table. What the
--- work words hold goes along: one module's table and, behind its pairs, those of modules in it that surely have room there. proofs/Applies shows that over a
--- sound card it is applyPrefix. Assumes nothing: these are definitions.
+-- work words hold goes along: one module's table and, behind its pairs, those of modules in it that surely have room there. A small module borrows the last
+-- words. proofs/Applies shows that over a sound card it is applyPrefix. Assumes nothing: these are definitions.
 use mathlib.Core.List.{List, [], _∷_, _++_}
 use mathlib.Core.Bool.{not, _&&_, cond}
 use Prim.Native.Nat.{ℕ, zero, suc, _+_, _-_}
@@ -15,7 +15,7 @@ use Rattle.adding.specs.Adds.{Table, table}
 use Rattle.adding.specs.Settles.{ownWords, freeWords}
 use Rattle.fields.specs.Fields.{namePlace}
 use Rattle.gathering.specs.Gathers.{Span, span, spansIn}
-use Rattle.tables.specs.Tables.{tableOf, hasRoom}
+use Rattle.tables.specs.Tables.{tableOf, hasRoom, isSmall, lastWords}
 use Rattle.rewriting.specs.Imports.{importsBytes}
 use Rattle.rewriting.specs.Rewrites.{declaration}
 
@@ -47,15 +47,22 @@ behind m d = made (m .bytes ++ d .bytes) (firstFull (m .full) (d .full)) (d .own
 unfoldable pub nestedMade : Made → Made
 nestedMade m = made (recordBytes 0x62 (m .bytes)) (m .full) (m .owner) (m .held)
 
--- the same, made with the words behind the table of the module at a place, which stays
-unfoldable pub besideMade : ℕ → Table → Made → Made
-besideMade at held m = made (recordBytes 0x62 (m .bytes)) (m .full) at (table (held .count) (ownWords held ++ m .held .words))
+-- the same, made with the last words, which are put back: the table of the module at a place stays
+unfoldable pub savedMade : ℕ → Table → Made → Made
+savedMade at held m = made (recordBytes 0x62 (m .bytes)) (m .full) at held
 
--- a declaration that holds a module goes on by f: beside the table of the module at a place, where the words hold that and have room, else with all words
+-- and made with the words behind that table's pairs
+unfoldable pub besideMade : ℕ → Table → Made → Made
+besideMade at held m = savedMade at (table (held .count) (ownWords held ++ m .held .words)) m
+
+-- a declaration that holds a module goes on by f. Where the words hold the table of the module at a place: with the last words, if it is small, or beside that
+-- table, if there is room. Else with all words
 unfoldable pub innerMade : (Span → ℕ → Table → Made) → (at : ℕ) → Span → ℕ → Table → Made
 innerMade f at r owner held =
     let inner : Span = span (r .from + 6) (r .to) in
-    cond (eqb owner at && hasRoom held (r .to - r .from)) (besideMade at held (f inner 65537 (table 0 (freeWords held)))) (nestedMade (f inner owner held))
+    let n : ℕ = r .to - r .from in
+    cond (eqb owner at && isSmall held n) (savedMade at held (f inner 65537 (table 0 (lastWords held n))))
+    (cond (eqb owner at && hasRoom held n) (besideMade at held (f inner 65537 (table 0 (freeWords held)))) (nestedMade (f inner owner held)))
 
 -- declarations, one behind the other
 unfoldable pub eachMade : (Span → ℕ → Table → Made) → List Span → Made → Made

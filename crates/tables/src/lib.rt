@@ -7,7 +7,7 @@ ghost use mathlib.Core.Bool.{_&&_};
 ghost use Prim.Native.Nat.{_*_, min};
 ghost use lib.ListN.{length};
 ghost use lib.Dec.{eqb};
-ghost use Rattle.tables.specs.Tables.{tableOf, hasRoom};
+ghost use Rattle.tables.specs.Tables.{tableOf, hasRoom, isSmall};
 
 // The place in the card of the module whose table words hold, and how many pairs it has.
 pub struct Held {
@@ -64,4 +64,18 @@ pub fn has_room_beside(work: &[u32], held: Held, at: usize, n: usize) -> bool
     }
     let k = own_words(work, held.pairs);
     n / 18 <= chains::room(&work[k..])
+}
+
+// Whether the words hold the table of the module at a place, and so many bytes collect so few pairs that the last words can be put aside for them.
+pub fn is_small_beside(work: &[u32], held: Held, at: usize, n: usize) -> bool
+    ensures { λ r. ⌜ r ≡ (eqb (held .owner) at && isSmall (table (held .pairs) (now (work .entry))) n) ⌝ }
+{
+    if at != held.owner {
+        return false;
+    }
+    let b = n / 18;
+    if 64 < b {
+        return false;
+    }
+    4 * b <= work.len()
 }

@@ -21,6 +21,11 @@ use Rattle.writing.proofs.Pieces.{lent, back, lent-back}
 pub wrote-none : (out : Bytes) (words : List ℕ) (owner pairs : ℕ) → Wrote out out words 0 0 owner pairs (made [] 0 owner (table pairs words))
 wrote-none out words owner pairs = record { length-is = refl; laid = sym (lay-nil out 0); full-is = refl; owner-is = refl; held-is = refl }
 
+-- out is as long as it was
+pub wrote-long : {out after : Bytes} {words : List ℕ} {len full owner pairs : ℕ} {m : Made} → Wrote out after words len full owner pairs m
+    → length after ≡ length out
+wrote-long {out = out} {m = m} w = ap length (w .laid) ∙ lay-length out 0 (m .bytes)
+
 -- one piece behind another, in the part of out behind it
 pub wrote-behind : (out₀ out : Bytes) (words : List ℕ) (p full owner pairs : ℕ) (m : Made) → Wrote out₀ out words p full owner pairs m
     → (q : ℕ) (part : Bytes) (words′ : List ℕ) (len full′ owner′ pairs′ : ℕ) (d : Made) → q ≡ min p (length out)
@@ -61,7 +66,7 @@ module _ (card : Bytes) (f : Span → ℕ → Table → Made) (out₀ : Bytes) (
 
   module _ (out : Bytes) (words : List ℕ) (i p full owner pairs : ℕ) (g : Going out words i p full owner pairs) where
     pub going-long : length out ≡ length out₀
-    going-long = ap length (g .wrote .laid) ∙ lay-length out₀ 0 (g .so-far .bytes)
+    going-long = wrote-long (g .wrote)
 
     stops : spansIn card i to ≡ [] → Wrote out₀ out words p full owner pairs (eachMade f (spansIn card from to) m₀)
     unfolding eachMade

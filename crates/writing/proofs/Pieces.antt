@@ -1,13 +1,13 @@
 -- What the members of the ring write, from what those that they call do: parts of out that are lent and come back, and heads laid once what is behind them is.
 -- Assumes nothing.
 use mathlib.Core.Path.{_≡_, refl, sym, ap, ap₂, subst, _∙_}
-use mathlib.Core.Bool.{Bool, true, false, _&&_}
+use mathlib.Core.Bool.{Bool, true, false, _&&_, and-eq-true-iff}
 use mathlib.Core.List.{List, [], _++_, append-nil}
-use Prim.Native.Nat.{ℕ, _+_, _-_, _*_, _≤_, min}
+use Prim.Native.Nat.{ℕ, _+_, _-_, _*_, _/_, _≤_, min}
 use native.Mathlib.Nat.{zero-add}
 use native.Mathlib.Omega.{arith}
-use lib.ListN.{length, take, drop, length-append, length-take, length-drop, drop-of-length-le}
-use lib.Seq.{take-all}
+use lib.ListN.{length, take, drop, length-append, length-take, length-drop, drop-of-length-le, take-append-drop}
+use lib.Seq.{take-all, take-at, length-take-le}
 use lib.Dec.{eqb, leb}
 use borrow.Author.Tests.{eq-eqb, ne-eqb, leb-true, leb-false}
 use Rattle.rast.proofs.Tests.{by-test}
@@ -19,14 +19,14 @@ use Rattle.prefix.specs.Prefix.{scope}
 use Rattle.adding.specs.Adds.{Table, table}
 use Rattle.adding.specs.Settles.{ownWords}
 use Rattle.gathering.specs.Gathers.{Span, span, spansIn}
-use Rattle.tables.specs.Tables.{tableOf, hasRoom}
+use Rattle.tables.specs.Tables.{tableOf, hasRoom, isSmall, lastWords}
 use Rattle.laying.specs.Lays.{lay, Laid, headBytes}
 use Rattle.laying.proofs.Laws.{lay-part, lay-behind, laid-record}
 use Rattle.rewriting.specs.Imports.{importsBytes}
 use Rattle.rewriting.specs.Rewrites.{declaration}
 use Rattle.rewriting.proofs.Lengths.{rest-inside}
-use Rattle.modules.specs.Modules.{Made, made, bodyIn, aheadIn, nestedMade, besideMade, innerMade, eachMade, declarationMade, bodyMade, modMade}
-use Rattle.writing.specs.Wrote.{Wrote}
+use Rattle.modules.specs.Modules.{Made, made, bodyIn, aheadIn, nestedMade, savedMade, besideMade, innerMade, eachMade, declarationMade, bodyMade, modMade}
+use Rattle.writing.specs.Wrote.{Wrote, Few}
 
 -- the part of out that is lent from a place on, and out when it is back
 abbrev pub lent : Bytes → ℕ → Bytes
@@ -35,10 +35,17 @@ lent out q = take (length out - q) (drop q out)
 abbrev pub back : Bytes → ℕ → Bytes → Bytes
 back out q part = take q out ++ (part ++ drop (length out - q) (drop q out))
 
+lent-whole : (out : Bytes) (q : ℕ) → lent out q ≡ drop q out
+lent-whole out q = take-all (length out - q) (drop q out) (omega (arith, length-drop q out))
+
+back-end : (out : Bytes) (q : ℕ) (part : Bytes) → back out q part ≡ take q out ++ part
+back-end out q part =
+    ap (λ (x : Bytes). take q out ++ (part ++ x)) (drop-of-length-le (drop q out) {i = length out - q} (let d = length-drop q out in omega arith))
+    ∙ ap (λ (x : Bytes). take q out ++ x) (append-nil part)
+
 pub lent-back : (out : Bytes) (at q : ℕ) (b part : Bytes) → q ≡ min at (length out) → part ≡ lay (lent out q) 0 b → back out q part ≡ lay out at b
 lent-back out at q b part e f =
-    let whole : lent out q ≡ drop q out = take-all (length out - q) (drop q out) (omega (arith, length-drop q out)) in
-    rw (f ∙ ap (λ (x : Bytes). lay x 0 b) whole) (lay-part out at q b e)
+    rw (f ∙ ap (λ (x : Bytes). lay x 0 b) (lent-whole out q)) (lay-part out at q b e)
 
 -- b laid over the part behind a head, then the head
 pub headed : (out : Bytes) (q k n : ℕ) (b part after : Bytes) → q ≡ min 6 (length out) → part ≡ lay (lent out q) 0 b → n ≡ 2 + length b
@@ -74,55 +81,127 @@ module _ (words : List ℕ) (pairs k : ℕ) (e : k ≡ min (4 * pairs) (length w
 
   free-lent : lent words k ≡ drop (4 * pairs) words
   free-lent =
-      take-all (length words - k) (drop k words) (let d = length-drop k words in omega arith)
+      lent-whole words k
       ∙ by-test (leb (4 * pairs) (length words))
       (λ t. let l = leb-true (4 * pairs) (length words) t in let z : k ≡ 4 * pairs = omega arith in rw z)
       (λ t. let l = leb-false (4 * pairs) (length words) t in
       drop-of-length-le words {i = k} (omega arith) ∙ sym (drop-of-length-le words {i = 4 * pairs} (omega arith)))
 
   free-back : (part : List ℕ) → back words k part ≡ take (4 * pairs) words ++ part
-  free-back part =
-      ap₂ (λ (x y : List ℕ). x ++ y) own-taken
-      (ap (λ (x : List ℕ). part ++ x) (drop-of-length-le (drop k words) {i = length words - k} (let d = length-drop k words in omega arith)) ∙ append-nil part)
+  free-back part = back-end words k part ∙ ap (λ (x : List ℕ). x ++ part) own-taken
 
--- a nested module, beside the table that the words hold and with all words
-module _ (f : Span → ℕ → Table → Made) (at from to owner₀ pairs₀ : ℕ) (words₀ : List ℕ) (test : Bool)
-    (y : test ≡ (eqb owner₀ at && hasRoom (table pairs₀ words₀) (to - from))) (out : Bytes) (q : ℕ) (e : q ≡ min 6 (length out)) where
-  pub beside-gives : test ≡ true → (k : ℕ) → k ≡ min (4 * pairs₀) (length words₀) → (part : Bytes) (words : List ℕ) (len full owner pairs : ℕ) (after : Bytes)
-      → Wrote (lent out q) part words len full owner pairs (f (span (from + 6) to) 65537 (table 0 (lent words₀ k)))
-      → after ≡ lay (back out q part) 0 (headBytes (len + 2) 0x62)
-      → Wrote out after (back words₀ k words) (len + 6) full at pairs₀ (innerMade f at (span from to) owner₀ (table pairs₀ words₀))
-  unfolding innerMade besideMade
-  beside-gives t k z part words len full owner pairs after w h =
-      let m = f (span (from + 6) to) 65537 (table 0 (drop (4 * pairs₀) words₀)) in
-      let v : Wrote (lent out q) part words len full owner pairs m =
-      subst (λ (x : List ℕ). Wrote (lent out q) part words len full owner pairs (f (span (from + 6) to) 65537 (table 0 x))) (free-lent words₀ pairs₀ k z) w in
-      rw (sym y ∙ t)
-      (record {
-        length-is = (let l = record-length 0x62 (m .bytes) in omega (arith, v .length-is, l));
-        laid = headed out q 0x62 (len + 2) (m .bytes) part after e (v .laid) (omega (arith, v .length-is)) h;
-        full-is = v .full-is;
-        owner-is = refl;
-        held-is =
-            ap (table pairs₀)
-            (free-back words₀ pairs₀ k z words ∙ ap (λ (x : Table). take (4 * pairs₀) words₀ ++ x .words) (v .held-is));
-      })
+-- words that were lent, and as they were then put back
+put-back : (words₀ words : List ℕ) (k : ℕ) → k ≤ length words₀ → back (back words₀ k words) k (lent words₀ k) ≡ words₀
+put-back words₀ words k h =
+    back-end (back words₀ k words) k (lent words₀ k)
+    ∙ ap₂ (λ (x y : List ℕ). take k x ++ y) (back-end words₀ k words) (lent-whole words₀ k)
+    ∙ ap (λ (x : List ℕ). x ++ drop k words₀) (take-at (take k words₀) words k (length-take-le k words₀ h)) ∙ take-append-drop k words₀
 
-  pub alone-gives : test ≡ false → (part : Bytes) (words : List ℕ) (len full owner pairs : ℕ) (after : Bytes)
-      → Wrote (lent out q) part words len full owner pairs (f (span (from + 6) to) owner₀ (table pairs₀ words₀))
-      → after ≡ lay (back out q part) 0 (headBytes (len + 2) 0x62)
-      → Wrote out after words (len + 6) full owner pairs (innerMade f at (span from to) owner₀ (table pairs₀ words₀))
-  unfolding innerMade nestedMade
-  alone-gives t part words len full owner pairs after w h =
-      let m = f (span (from + 6) to) owner₀ (table pairs₀ words₀) in
-      rw (sym y ∙ t)
-      (record {
+-- the last words, which are put aside
+module _ (n : ℕ) (words₀ : List ℕ) (few : Few n words₀) where
+  abbrev From : ℕ
+  From = length words₀ - 4 * (n / 18)
+
+  module _ (aside : List ℕ) (s : take (length (lent words₀ From)) aside ≡ lent words₀ From) where
+    last-long : length (lent words₀ From) ≡ 4 * (n / 18)
+    last-long = let i = few .there in simp (length-take, length-drop) (omega arith)
+
+    aside-is : take (4 * (n / 18)) aside ≡ lent words₀ From
+    aside-is = ap (λ (m : ℕ). take m aside) (sym last-long) ∙ s
+
+    pub aside-long : 4 * (n / 18) ≡ length (take (4 * (n / 18)) aside)
+    aside-long = sym (ap length aside-is ∙ last-long)
+
+    -- there are as many again to put them back to
+    pub last-again : (words : List ℕ) → length words ≡ length (lent words₀ From)
+        → length (lent (back words₀ From words) From) ≡ length (take (4 * (n / 18)) aside)
+    last-again words e =
+        let i = few .there in
+        let a = last-long in
+        let b : length (back words₀ From words) ≡ length (take From words₀) + length words =
+        ap length (back-end words₀ From words) ∙ length-append (take From words₀) words in
+        let c = length-take-le From words₀ (omega arith) in
+        let d = length-drop From (back words₀ From words) in
+        let z : length (drop From (back words₀ From words)) ≡ 4 * (n / 18) = omega arith in
+        ap length (lent-whole (back words₀ From words) From) ∙ z ∙ aside-long
+
+-- a nested module: it is written over the part of out behind its declaration's head, then the head
+module _ (f : Span → ℕ → Table → Made) (at from to owner₀ pairs₀ : ℕ) (words₀ : List ℕ) (out : Bytes) (q : ℕ) (e : q ≡ min 6 (length out)) (part : Bytes)
+    (words : List ℕ) (len full owner pairs : ℕ) (after : Bytes) (h : after ≡ lay (back out q part) 0 (headBytes (len + 2) 0x62)) where
+  module-gives : (m : Made) → Wrote (lent out q) part words len full owner pairs m → (words′ : List ℕ) (owner′ pairs′ o : ℕ) (held : Table) → owner′ ≡ o
+      → table pairs′ words′ ≡ held → Wrote out after words′ (len + 6) full owner′ pairs′ (savedMade o held m)
+  unfolding savedMade
+  module-gives m w words′ owner′ pairs′ o held x y =
+      record {
         length-is = (let l = record-length 0x62 (m .bytes) in omega (arith, w .length-is, l));
         laid = headed out q 0x62 (len + 2) (m .bytes) part after e (w .laid) (omega (arith, w .length-is)) h;
         full-is = w .full-is;
-        owner-is = w .owner-is;
-        held-is = w .held-is;
-      })
+        owner-is = x;
+        held-is = y;
+      }
+
+  -- with other words than those by which it is said, which are the same
+  lent-gives : (v v′ : List ℕ) → v ≡ v′ → Wrote (lent out q) part words len full owner pairs (f (span (from + 6) to) 65537 (table 0 v))
+      → Wrote (lent out q) part words len full owner pairs (f (span (from + 6) to) 65537 (table 0 v′))
+  lent-gives v v′ x w = rw x at w
+
+  -- with the last words, put aside and put back
+  module _ (few : Few (to - from) words₀) where
+    abbrev Last : ℕ
+    Last = From (to - from) words₀ few
+
+    pub saved-gives : (aside : List ℕ) → take (length (lent words₀ Last)) aside ≡ lent words₀ Last
+        → Wrote (lent out q) part words len full owner pairs (f (span (from + 6) to) 65537 (table 0 (lent words₀ Last)))
+        → (again : List ℕ) → again ≡ take (4 * ((to - from) / 18)) aside
+        → Wrote out after (back (back words₀ Last words) Last again) (len + 6) full at pairs₀ (savedMade at (table pairs₀ words₀)
+        (f (span (from + 6) to) 65537 (table 0 (lastWords (table pairs₀ words₀) (to - from)))))
+    unfolding lastWords
+    saved-gives aside s w again g =
+        let v = lent-gives (lent words₀ Last) (drop Last words₀) (lent-whole words₀ Last) w in
+        module-gives _ v (back (back words₀ Last words) Last again) at pairs₀ at (table pairs₀ words₀) refl
+        (ap (table pairs₀) (ap (back (back words₀ Last words) Last) (g ∙ aside-is (to - from) words₀ few aside s) ∙ put-back words₀ words Last (omega arith)))
+
+  module _ (small test : Bool) (x : small ≡ (eqb owner₀ at && isSmall (table pairs₀ words₀) (to - from)))
+      (y : test ≡ (eqb owner₀ at && hasRoom (table pairs₀ words₀) (to - from))) (no : small ≡ false) where
+    -- beside the table that the words hold
+    pub beside-gives : test ≡ true → (k : ℕ) → k ≡ min (4 * pairs₀) (length words₀)
+        → Wrote (lent out q) part words len full owner pairs (f (span (from + 6) to) 65537 (table 0 (lent words₀ k)))
+        → Wrote out after (back words₀ k words) (len + 6) full at pairs₀ (innerMade f at (span from to) owner₀ (table pairs₀ words₀))
+    unfolding innerMade besideMade
+    beside-gives t k z w =
+        let v = lent-gives (lent words₀ k) (drop (4 * pairs₀) words₀) (free-lent words₀ pairs₀ k z) w in
+        rw (sym x ∙ no, sym y ∙ t)
+        (module-gives _ v (back words₀ k words) at pairs₀ at _ refl
+        (ap (table pairs₀) (free-back words₀ pairs₀ k z words ∙ ap (λ (x : Table). take (4 * pairs₀) words₀ ++ x .words) (v .held-is))))
+
+    -- and with all words
+    pub alone-gives : test ≡ false → Wrote (lent out q) part words len full owner pairs (f (span (from + 6) to) owner₀ (table pairs₀ words₀))
+        → Wrote out after words (len + 6) full owner pairs (innerMade f at (span from to) owner₀ (table pairs₀ words₀))
+    unfolding innerMade nestedMade savedMade
+    alone-gives t w = rw (sym x ∙ no, sym y ∙ t) (module-gives _ w words owner pairs _ _ (w .owner-is) (w .held-is))
+
+-- the words are as many as they were
+pub saved-keeps : {out after : Bytes} {words : List ℕ} {len full owner pairs : ℕ} (at : ℕ) (held : Table) (m : Made)
+    → Wrote out after words len full owner pairs (savedMade at held m) → length words ≡ length (held .words)
+unfolding savedMade
+saved-keeps at held m w = ap (λ (t : Table). length (t .words)) (w .held-is)
+
+-- a small one
+module _ (f : Span → ℕ → Table → Made) (at from to owner₀ pairs₀ : ℕ) (words₀ : List ℕ) (small : Bool)
+    (x : small ≡ (eqb owner₀ at && isSmall (table pairs₀ words₀) (to - from))) (t : small ≡ true) where
+  pub small-few : Few (to - from) words₀
+  unfolding isSmall
+  small-few =
+      let h = and-eq-true-iff (eqb owner₀ at) (isSmall (table pairs₀ words₀) (to - from)) .0 (sym x ∙ t) in
+      let g = and-eq-true-iff (leb ((to - from) / 18) 64) (leb (4 * ((to - from) / 18)) (length words₀)) .0 (h .1) in
+      record { few = leb-true _ _ (g .0); there = leb-true _ _ (g .1) }
+
+  pub small-gives : (out after : Bytes) (words : List ℕ) (len full owner pairs : ℕ)
+      → Wrote out after words len full owner pairs (savedMade at (table pairs₀ words₀)
+      (f (span (from + 6) to) 65537 (table 0 (lastWords (table pairs₀ words₀) (to - from)))))
+      → Wrote out after words len full owner pairs (innerMade f at (span from to) owner₀ (table pairs₀ words₀))
+  unfolding innerMade
+  small-gives out after words len full owner pairs w = rw (sym x ∙ t) w
 
 module _ (op : Shortening) (card root : Bytes) where
   -- a declaration that holds a module

@@ -1,7 +1,7 @@
 -- A module, test by test: what is left, a full table, and a Mod that is written anew. Assumes nothing.
 use mathlib.Core.Path.{_≡_, refl, sym, ap, subst, _∙_}
 use mathlib.Core.List.{List, [], _∷_, _++_}
-use Prim.Native.Nat.{ℕ, suc, _+_, _-_, _<_, _≤_}
+use Prim.Native.Nat.{ℕ, suc, _+_, _-_, _^_, _<_, _≤_}
 use native.Mathlib.Omega.{arith}
 use lib.ListN.{length, length-append}
 use borrow.Author.Tests.{eq-eqb, ne-eqb, lt-ltb, le-ltb}
@@ -10,15 +10,17 @@ use Rattle.records.specs.Record.{kindOf, contentOf}
 use Rattle.operation.specs.declared.Shortening.{Shortening}
 use Rattle.prefix.specs.Prefix.{scope}
 use Rattle.chains.specs.Chains.{room}
-use Rattle.adding.specs.Adds.{table}
+use Rattle.adding.specs.Adds.{Table, table}
 use Rattle.fields.specs.Fields.{namePlace}
-use Rattle.gathering.specs.Gathers.{span}
+use Rattle.gathering.specs.Gathers.{Span, span}
 use Rattle.gathering.proofs.Spans.{between-length}
 use Rattle.rewriting.proofs.Lengths.{content-inside}
 use Rattle.tables.specs.Tables.{tableOf}
 use Rattle.laying.specs.Lays.{lay}
 use Rattle.laying.proofs.Laws.{lay-nil}
 use Rattle.modules.specs.Modules.{Made, made, aheadIn, bodyMade, modMade, moduleMade, cardMade}
+use Rattle.modules.proofs.Keeps.{held-length}
+use Rattle.modules.proofs.Bound.{module-small}
 use Rattle.writing.specs.Wrote.{Wrote, Within}
 
 module _ (op : Shortening) (card root : Bytes) (left : ℕ) (chain : List ℕ) (at to owner pairs : ℕ) (words : List ℕ) (out r : Bytes) (y : r ≡ between card at to)
@@ -98,6 +100,21 @@ content-small card at to r c y e =
     let d = between-length card at to in
     let f = ap length y in
     omega arith
+
+-- a module leaves as many words as it had
+pub module-keeps : (op : Shortening) (card root : Bytes) (left : ℕ) (chain : List ℕ) (m : Span) (owner₀ : ℕ) (held : Table) (out after : Bytes)
+    (words : List ℕ) (len full owner pairs : ℕ) → Wrote out after words len full owner pairs (moduleMade op card root left chain m owner₀ held)
+    → length words ≡ length (held .words)
+module-keeps op card root left chain m owner₀ held out after words len full owner pairs w =
+    ap (λ (t : Table). length (t .words)) (w .held-is) ∙ held-length op card root left chain m owner₀ held
+
+-- what was written of a module leaves room for a head
+pub module-fits : (op : Shortening) (card root : Bytes) (left : ℕ) (chain : List ℕ) (from to owner₀ : ℕ) (held : Table) (out after : Bytes)
+    (words : List ℕ) (len full owner pairs : ℕ) → Within from to card chain left → left ≤ 48
+    → Wrote out after words len full owner pairs (moduleMade op card root left chain (span from to) owner₀ held) → len ≤ 2 ^ 60
+module-fits op card root left chain from to owner₀ held out after words len full owner pairs h d w =
+    let b = module-small op card root (h .small) left d chain from to (h .ordered) (h .inside) owner₀ held in
+    omega (arith, w .length-is, b)
 
 pub fits-room : (words : List ℕ) (n mine : ℕ) → n ≡ room words → mine ≤ n → mine ≤ room words
 fits-room words n mine e h = omega (arith, e, h)

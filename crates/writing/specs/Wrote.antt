@@ -1,15 +1,16 @@
 -- What a call of the ring leaves: the piece that it answers is what the definition makes. Assumes nothing: these are definitions.
 use mathlib.Core.Path.{_≡_}
 use mathlib.Core.List.{List, []}
-use Prim.Native.Nat.{ℕ, _+_, _-_, _≤_}
+use Prim.Native.Nat.{ℕ, _+_, _-_, _*_, _/_, _≤_}
 use lib.ListN.{length as long}
 use Rattle.wire.specs.Numbers.{Bytes, between}
 use Rattle.records.specs.Record.{contentOf}
 use Rattle.operation.specs.declared.Shortening.{Shortening}
-use Rattle.adding.specs.Adds.{table}
+use Rattle.adding.specs.Adds.{Table, table}
 use Rattle.gathering.specs.Gathers.{Span, span, spansIn}
+use Rattle.tables.specs.Tables.{lastWords}
 use Rattle.laying.specs.Lays.{lay}
-use Rattle.modules.specs.Modules.{Made, made, aheadIn, modMade, innerMade, eachMade, declarationMade, bodyMade, moduleMade}
+use Rattle.modules.specs.Modules.{Made, made, aheadIn, modMade, savedMade, innerMade, eachMade, declarationMade, bodyMade, moduleMade}
 
 -- out and the words after a call, its four answers, and what is made
 pub record Wrote (out after : Bytes) (words : List ℕ) (length full owner pairs : ℕ) (m : Made) : Type 0 where
@@ -26,8 +27,18 @@ pub record Within (from to : ℕ) (card : Bytes) (chain : List ℕ) (left : ℕ)
   pub small : long card ≤ 65536
   pub shallow : long chain + left ≤ 48
 
+-- what so many bytes collect takes at most 256 words, and there are as many
+pub record Few (n : ℕ) (words : List ℕ) : Type 0 where
+  pub few : n / 18 ≤ 64
+  pub there : 4 * (n / 18) ≤ long words
+
 -- what is made of the module at a place, which has this chain and is at most left deep, of its body and of its declarations, where the words hold its table
 module _ (op : Shortening) (card root : Bytes) (left : ℕ) (chain : List ℕ) (at : ℕ) where
+  abbrev pub savedAt : Span → (pairs : ℕ) → List ℕ → Made
+  savedAt d pairs words =
+      let held : Table = table pairs words in
+      savedMade at held (moduleMade op card root left chain (span (d .from + 6) (d .to)) 65537 (table 0 (lastWords held (d .to - d .from))))
+
   abbrev pub innerAt : Span → (owner pairs : ℕ) → List ℕ → Made
   innerAt d owner pairs words = innerMade (moduleMade op card root left chain) at d owner (table pairs words)
 

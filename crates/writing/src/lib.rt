@@ -1,6 +1,6 @@
 // Writing a module: functions for a module, its body and a declaration call each other in a ring, the remaining depth falling. The work words hold a module's
-// table, and behind it those of modules in it. Each is lent the part of the out buffer that starts where its parent has got to, and writes as far as that
-// reaches: with an empty part, it measures.
+// table, and behind it those of modules in it; a small module borrows the last words. Each is lent the part of the out buffer that starts where its parent has
+// got to, and writes as far as that reaches: with an empty part, it measures.
 use operation::Shortening;
 use tables::Held;
 ghost use mathlib.Core.Path.{_≡_};
@@ -10,7 +10,7 @@ ghost use lib.ListN.{length, take};
 ghost use Rattle.adding.specs.Adds.{table};
 ghost use Rattle.gathering.specs.Gathers.{span};
 ghost use Rattle.modules.specs.Modules.{firstFull, moduleMade, cardMade};
-ghost use Rattle.writing.specs.Wrote.{Wrote, Within, innerAt, declarationAt, declarationsAt, bodyAt, modAt};
+ghost use Rattle.writing.specs.Wrote.{Wrote, Within, Few, savedAt, innerAt, declarationAt, declarationsAt, bodyAt, modAt};
 
 // How long what was made is; the place after that of the first module whose table is full, 0 where none is; whose table the words hold, and its pairs.
 pub struct Piece {
@@ -264,8 +264,54 @@ fn write_declarations(
     }
 }
 
-// A declaration of the module at a place that holds a module, which goes to the part of out behind the declaration's head. Its table goes to the words behind
-// those of the module at the place, where they have room: that table then stays. Else it has all words.
+// A declaration of the module at a place that holds a small module, which goes to the part of out behind the declaration's head. It borrows the last words,
+// which may be those of the table of the module at the place: they are put aside, and put back after.
+fn write_saved(
+    op: Shortening,
+    card: &[u8],
+    at: usize,
+    from: usize,
+    to: usize,
+    left: usize,
+    root: &[u8],
+    chain: &[usize],
+    out: &mut [u8],
+    work: &mut [u32],
+    pairs: usize,
+) -> Piece
+    requires { ⌜ Within (from + 6) to (now card) (now chain) left × (left ≤ 48) × Few (to - from) (now work) ⌝ }
+    ensures { λ r. ⌜ Wrote (now (out .entry)) (now (out .exit)) (now (work .exit)) (r .length) (r .full) (r .owner) (r .pairs)
+        (savedAt op (now (card .entry)) (now (root .entry)) left (now (chain .entry)) at (span from to) pairs (now (work .entry))) ⌝ }
+{
+    let q = laying::least(6, out.len());
+    let n = 4 * ((to - from) / 18);
+    let k = work.len() - n;
+    let aside = work::saved(&work[k..]);
+    let m = write_module(
+        op,
+        card,
+        from + 6,
+        to,
+        left,
+        root,
+        chain,
+        &mut out[q..],
+        &mut work[k..],
+        65537,
+        0,
+    );
+    work::put_back(&mut work[k..], &aside[..n]);
+    laying::lay_head(m.length + 2, 0x62, out, 0);
+    Piece {
+        length: m.length + 6,
+        full: m.full,
+        owner: at,
+        pairs: pairs,
+    }
+}
+
+// The same of a module of any size. Where the words hold the table of the module at the place, a small one borrows the last of them, and one for which there is
+// room gets those behind the table: the table stays. Else it has all words.
 fn write_inner(
     op: Shortening,
     card: &[u8],
@@ -289,6 +335,9 @@ fn write_inner(
         owner: owner,
         pairs: pairs,
     };
+    if tables::is_small_beside(work, held, at, to - from) {
+        return write_saved(op, card, at, from, to, left, root, chain, out, work, pairs);
+    }
     if tables::has_room_beside(work, held, at, to - from) {
         let k = tables::own_words(work, pairs);
         let b = write_module(

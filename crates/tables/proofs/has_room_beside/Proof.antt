@@ -5,7 +5,7 @@ use Rattle.tables.proofs.has_room_beside.Statement.{statement}
 use Rattle.tables.proofs.has_room_beside.Tie as tie
 
 returns : tie.Need-returns
-returns c = beside-not _ _ _ _ _ (c .if1 .taken)
+returns c = beside-not _ _ _ (c .if1 .taken)
 
 own-words-requires : tie.Need-own-words-requires
 own-words-requires c κs = search needs

@@ -1,11 +1,26 @@
--- `work::clear` meets its contract: word by word, by the laws of Cleared. Assumes nothing.
-use Prim.Native.Nat.{_-_}
+-- `work::clear` meets its contract: word by word, by the laws of Copied. Assumes nothing.
+use mathlib.Core.Path.{_≡_, sym}
+use mathlib.Core.List.{List}
+use Prim.Native.Nat.{ℕ, _+_, _-_, _<_, _≤_}
 use native.Mathlib.Omega.{arith}
-use lib.ListN.{length}
+use lib.ListN.{length, set, replicate, length-replicate, getD-replicate}
 use borrow.Author.Needs.{needs}
-use Rattle.work.proofs.Cleared.{Cleared, cleared-none, cleared-next, cleared-all}
+use Rattle.work.proofs.Copied.{Copied, copied-none, copied-next, copied-over}
 use Rattle.work.proofs.clear.Statement.{statement}
 use Rattle.work.proofs.clear.Tie as tie
+
+-- the first i words are zero
+abbrev Cleared : (v w : List ℕ) → ℕ → Type 0
+Cleared v w i = Copied (replicate (length v) 0) v w i
+
+cleared-next : (v w : List ℕ) (i : ℕ) → Cleared v w i → i < length w → Cleared v (set w i 0) (i + 1)
+cleared-next v w i c h =
+    let l = c .long in
+    let k = length-replicate {A = ℕ} (length v) 0 in
+    rw (getD-replicate {A = ℕ} (length v) i 0 0 (omega arith)) at (copied-next (replicate (length v) 0) v w i c (omega arith) h)
+
+cleared-all : (v w : List ℕ) (i : ℕ) → Cleared v w i → length w ≤ i → w ≡ replicate (length v) 0
+cleared-all v w i c h = copied-over (replicate (length v) 0) v w i c (sym (length-replicate {A = ℕ} (length v) 0)) h
 
 abbrev Inv-loop : tie.InvT-loop
 Inv-loop work₀ i₀ work i = Cleared work₀ work i
@@ -14,7 +29,7 @@ abbrev μ-loop : tie.MeasureT-loop
 μ-loop work₀ i₀ work i = length work₀ - i
 
 loop-holds : tie.Need-loop-holds Inv-loop μ-loop
-loop-holds c = cleared-none _
+loop-holds c = copied-none _ _
 
 mul-work : tie.Need-mul-work Inv-loop μ-loop
 mul-work c = search needs

@@ -1,39 +1,43 @@
--- The ring of `writing` meets its contracts: the laws of Ring at each member. Assumes nothing.
+-- The ring of `writing` meets its contracts: the laws of Pieces, Going and Tests at each member. Assumes nothing.
 use mathlib.Core.Path.{_≡_, refl, sym, ap, _∙_}
 use mathlib.Core.List.{[]}
 use Prim.Native.Nat.{ℕ, _+_, _*_, _-_, _<_}
 use native.Mathlib.Omega.{arith}
-use lib.ListN.{length, take, drop, length-append}
+use lib.ListN.{length, take, length-append}
 use lib.Seq.{length-take-le}
 use borrow.Author.Needs.{needs}
 use Rattle.prefix.specs.Prefix.{scope}
 use Rattle.adding.specs.Adds.{table}
 use Rattle.modules.specs.Modules.{made, declarationMade, moduleMade}
-use Rattle.modules.proofs.Bound.{module-bound, declaration-bound, declarations-bound, body-bound, imports-bound}
-use Rattle.writing.proofs.Pieces.{beside-gives, alone-gives, inner-gives, other-gives, body-gives, body-inside, mod-all}
-use Rattle.writing.proofs.Going.{Going, going-none, going-long, going-short, going-end, next-fits, going-next}
+use Rattle.modules.proofs.Bound.{declaration-bound, declarations-bound, body-bound, imports-bound}
+use Rattle.writing.proofs.Pieces.{aside-long, last-again, saved-gives, saved-keeps, beside-gives, alone-gives, small-few, small-gives}
+use Rattle.writing.proofs.Pieces.{inner-gives, other-gives, body-gives, body-inside, mod-all}
+use Rattle.writing.proofs.Going.{wrote-long, Going, going-none, going-long, going-short, going-end, next-fits, going-next}
 use Rattle.writing.proofs.Tests.{module-shallow, module-other, module-full, module-mod, names-fit}
-use Rattle.writing.proofs.Tests.{within-inner, within-part, within-zero, content-small, fits-room, inside-card}
+use Rattle.writing.proofs.Tests.{within-inner, within-part, within-zero, content-small, module-keeps, module-fits, fits-room, inside-card}
 use borrow.Fn.Kinds.{In}
 use borrow.Fn.PlainCycle.{Measures, is, falls, and}
 use Rattle.writing.proofs.write_body.Reads as write-body
 use Rattle.writing.proofs.write_body.Kinds as write-body-kinds
-use Rattle.writing.proofs.+write_body+write_declaration+write_declarations+write_inner+write_mod+write_module.Lts-write_body as write-body-lts
+use Rattle.writing.proofs.+write_body+write_declaration+write_declarations+write_inner+write_mod+write_module+write_saved.Lts-write_body as write-body-lts
 use Rattle.writing.proofs.write_declaration.Reads as write-declaration
 use Rattle.writing.proofs.write_declaration.Kinds as write-declaration-kinds
-use Rattle.writing.proofs.+write_body+write_declaration+write_declarations+write_inner+write_mod+write_module.Lts-write_declaration as write-declaration-lts
+use Rattle.writing.proofs.+write_body+write_declaration+write_declarations+write_inner+write_mod+write_module+write_saved.Lts-write_declaration as write-declaration-lts
 use Rattle.writing.proofs.write_declarations.Reads as write-declarations
 use Rattle.writing.proofs.write_declarations.Kinds as write-declarations-kinds
-use Rattle.writing.proofs.+write_body+write_declaration+write_declarations+write_inner+write_mod+write_module.Lts-write_declarations as write-declarations-lts
+use Rattle.writing.proofs.+write_body+write_declaration+write_declarations+write_inner+write_mod+write_module+write_saved.Lts-write_declarations as write-declarations-lts
 use Rattle.writing.proofs.write_inner.Reads as write-inner
 use Rattle.writing.proofs.write_inner.Kinds as write-inner-kinds
-use Rattle.writing.proofs.+write_body+write_declaration+write_declarations+write_inner+write_mod+write_module.Lts-write_inner as write-inner-lts
+use Rattle.writing.proofs.+write_body+write_declaration+write_declarations+write_inner+write_mod+write_module+write_saved.Lts-write_inner as write-inner-lts
 use Rattle.writing.proofs.write_mod.Reads as write-mod
 use Rattle.writing.proofs.write_mod.Kinds as write-mod-kinds
-use Rattle.writing.proofs.+write_body+write_declaration+write_declarations+write_inner+write_mod+write_module.Lts-write_mod as write-mod-lts
+use Rattle.writing.proofs.+write_body+write_declaration+write_declarations+write_inner+write_mod+write_module+write_saved.Lts-write_mod as write-mod-lts
 use Rattle.writing.proofs.write_module.Reads as write-module
 use Rattle.writing.proofs.write_module.Kinds as write-module-kinds
-use Rattle.writing.proofs.+write_body+write_declaration+write_declarations+write_inner+write_mod+write_module.Lts-write_module as write-module-lts
+use Rattle.writing.proofs.+write_body+write_declaration+write_declarations+write_inner+write_mod+write_module+write_saved.Lts-write_module as write-module-lts
+use Rattle.writing.proofs.write_saved.Reads as write-saved
+use Rattle.writing.proofs.write_saved.Kinds as write-saved-kinds
+use Rattle.writing.proofs.+write_body+write_declaration+write_declarations+write_inner+write_mod+write_module+write_saved.Lts-write_saved as write-saved-lts
 use Rattle.chains.proofs.room.Reads as room-reads
 use Rattle.fields.proofs.name_place.Reads as name-place-reads
 use Rattle.importing.proofs.write_imports.Reads as write-imports-reads
@@ -47,31 +51,37 @@ use Rattle.reader.proofs.record_length.Reads as record-length-reads
 use Rattle.reader.proofs.rest.Reads as rest-reads
 use Rattle.replacing.proofs.replace.Reads as replace-reads
 use Rattle.tables.proofs.has_room_beside.Reads as has-room-beside-reads
+use Rattle.tables.proofs.is_small_beside.Reads as is-small-beside-reads
 use Rattle.tables.proofs.own_words.Reads as own-words-reads
 use Rattle.tables.proofs.table_of.Reads as table-of-reads
 use Rattle.wire.proofs.part.Reads as part-reads
+use Rattle.work.proofs.put_back.Reads as put-back-reads
+use Rattle.work.proofs.saved.Reads as saved-reads
 use Rattle.writing.proofs.extended.Reads as extended-reads
 use Rattle.writing.proofs.first_full.Reads as first-full-reads
-use Rattle.writing.proofs.+write_body+write_declaration+write_declarations+write_inner+write_mod+write_module.{statement}
-use Rattle.writing.proofs.+write_body+write_declaration+write_declarations+write_inner+write_mod+write_module.Tie.{close}
+use Rattle.writing.proofs.+write_body+write_declaration+write_declarations+write_inner+write_mod+write_module+write_saved.{statement}
+use Rattle.writing.proofs.+write_body+write_declaration+write_declarations+write_inner+write_mod+write_module+write_saved.Tie.{close}
 
 abbrev μ-write-body : Measures 5 write-body-kinds.ps ℕ
-μ-write-body κs a = 6 * a .1 .1 .1 .1 .1 .0 + 3
+μ-write-body κs a = 7 * a .1 .1 .1 .1 .1 .0 + 3
 
 abbrev μ-write-declaration : Measures 5 write-declaration-kinds.ps ℕ
-μ-write-declaration κs a = 6 * a .1 .1 .1 .1 .1 .0 + 1
+μ-write-declaration κs a = 7 * a .1 .1 .1 .1 .1 .0 + 1
 
 abbrev μ-write-declarations : Measures 5 write-declarations-kinds.ps ℕ
-μ-write-declarations κs a = 6 * a .1 .1 .1 .1 .1 .0 + 2
+μ-write-declarations κs a = 7 * a .1 .1 .1 .1 .1 .0 + 2
 
 abbrev μ-write-inner : Measures 5 write-inner-kinds.ps ℕ
-μ-write-inner κs a = 6 * a .1 .1 .1 .1 .1 .0 + 6
+μ-write-inner κs a = 7 * a .1 .1 .1 .1 .1 .0 + 7
 
 abbrev μ-write-mod : Measures 5 write-mod-kinds.ps ℕ
-μ-write-mod κs a = 6 * a .1 .1 .1 .1 .0 + 4
+μ-write-mod κs a = 7 * a .1 .1 .1 .1 .0 + 4
 
 abbrev μ-write-module : Measures 5 write-module-kinds.ps ℕ
-μ-write-module κs a = 6 * a .1 .1 .1 .1 .0 + 5
+μ-write-module κs a = 7 * a .1 .1 .1 .1 .0 + 5
+
+abbrev μ-write-saved : Measures 5 write-saved-kinds.ps ℕ
+μ-write-saved κs a = 7 * a .1 .1 .1 .1 .1 .0 + 6
 
 abbrev write-body-at : ℕ → In 5 write-body-kinds.ps
 write-body-at t =
@@ -140,6 +150,14 @@ write-module-below t =
     (falls 5 write-module-kinds.ps _<_ μ-write-module t)
     write-module.Pre
 
+abbrev write-saved-at : ℕ → In 5 write-saved-kinds.ps
+write-saved-at t =
+    and 5 write-saved-kinds.ps (is 5 write-saved-kinds.ps μ-write-saved t) write-saved.Pre
+
+abbrev write-saved-below : ℕ → In 5 write-saved-kinds.ps
+write-saved-below t =
+    and 5 write-saved-kinds.ps (falls 5 write-saved-kinds.ps _<_ μ-write-saved t) write-saved.Pre
+
 abbrev write-body-calls : ℕ → write-body-lts.Claims
 write-body-calls t = (
   least-reads.Asked,
@@ -190,6 +208,10 @@ abbrev write-inner-calls : ℕ → write-inner-lts.Claims
 write-inner-calls t = (
   least-reads.Asked,
   least-reads.Learnt,
+  is-small-beside-reads.Asked,
+  is-small-beside-reads.Learnt,
+  write-saved-below t,
+  write-saved.Post,
   has-room-beside-reads.Asked,
   has-room-beside-reads.Learnt,
   own-words-reads.Asked,
@@ -236,6 +258,20 @@ write-module-calls t = (
   room-reads.Learnt,
   write-mod-below t,
   write-mod.Post,
+)
+
+abbrev write-saved-calls : ℕ → write-saved-lts.Claims
+write-saved-calls t = (
+  least-reads.Asked,
+  least-reads.Learnt,
+  saved-reads.Asked,
+  saved-reads.Learnt,
+  write-module-below t,
+  write-module.Post,
+  put-back-reads.Asked,
+  put-back-reads.Learnt,
+  lay-head-reads.Asked,
+  lay-head-reads.Learnt,
 )
 
 write-body-least-requires : (t : ℕ) → write-body-lts.Need-least-requires (write-body-calls t) (write-body-at t) write-body.Post
@@ -824,6 +860,37 @@ write-declarations-returns-2 t c =
 write-inner-least-requires : (t : ℕ) → write-inner-lts.Need-least-requires (write-inner-calls t) (write-inner-at t) write-inner.Post
 write-inner-least-requires t c κs = search needs
 
+write-inner-sub-is-small-beside : (t : ℕ) → write-inner-lts.Need-sub-is-small-beside (write-inner-calls t) (write-inner-at t) write-inner.Post
+write-inner-sub-is-small-beside t c = search needs
+
+write-inner-is-small-beside-requires : (t : ℕ) → write-inner-lts.Need-is-small-beside-requires (write-inner-calls t) (write-inner-at t) write-inner.Post
+write-inner-is-small-beside-requires t c κs = search needs
+
+write-inner-write-saved-requires : (t : ℕ) → write-inner-lts.Need-write-saved-requires (write-inner-calls t) (write-inner-at t) write-inner.Post
+write-inner-write-saved-requires t c κs =
+    let args = c .before .before .before .before .before .before .before .before .before .before .before .args in
+    let pre = c .before .before .before .before .before .before .before .before .before .before .before .pre in
+    let is-small-beside = c .before .before .before .is-small-beside in
+    let if1 = c .before .before .if1 in
+    let few = small-few (moduleMade (args .op) (args .card .now) (args .root .now) (args .left) (args .chain .now)) (args .at) (args .from) (args .to)
+    (args .owner) (args .pairs) (args .work .now) _ (is-small-beside .ensures) (if1 .taken) in
+    (omega (arith, pre .0), (pre .1 .0, pre .1 .1, few))
+
+write-inner-same-length : (t : ℕ) → write-inner-lts.Need-same-length (write-inner-calls t) (write-inner-at t) write-inner.Post
+write-inner-same-length t c = search needs
+
+write-inner-same-length-2 : (t : ℕ) → write-inner-lts.Need-same-length-2 (write-inner-calls t) (write-inner-at t) write-inner.Post
+write-inner-same-length-2 t c = search needs
+
+write-inner-returns : (t : ℕ) → write-inner-lts.Need-returns (write-inner-calls t) (write-inner-at t) write-inner.Post
+write-inner-returns t c =
+    let args = c .before .before .before .before .before .before .before .before .before .before .before .before .before .before .before .before .args in
+    let is-small-beside = c .before .before .before .before .before .before .before .before .is-small-beside in
+    let if1 = c .before .before .before .before .before .before .before .if1 in
+    let write-saved = c .before .before .before .before .write-saved in
+    small-gives (moduleMade (args .op) (args .card .now) (args .root .now) (args .left) (args .chain .now)) (args .at) (args .from) (args .to) (args .owner)
+    (args .pairs) (args .work .now) _ (is-small-beside .ensures) (if1 .taken) _ _ _ _ _ _ _ (write-saved .ensures)
+
 write-inner-sub-has-room-beside : (t : ℕ) → write-inner-lts.Need-sub-has-room-beside (write-inner-calls t) (write-inner-at t) write-inner.Post
 write-inner-sub-has-room-beside t c = search needs
 
@@ -862,64 +929,46 @@ write-inner-write-module-requires t c κs = search needs
 
 write-inner-add-lay-head : (t : ℕ) → write-inner-lts.Need-add-lay-head (write-inner-calls t) (write-inner-at t) write-inner.Post
 write-inner-add-lay-head t c =
-    let args = c .before .before .before .before .before .before .before .before .before .before .before .before .before .before .before .before .before
-    .before .before .args in
     let pre = c .before .before .before .before .before .before .before .before .before .before .before .before .before .before .before .before .before
-    .before .before .pre in
-    let own-words = c .before .before .before .before .before .before .before .before .own-words in
+    .before .before .before .before .before .pre in
     let write-module = c .before .before .before .before .before .write-module in
-    omega (
-      arith,
-      module-bound (args .op) (args .card .now) (args .root .now) ((pre .1 .0) .small) (args .left) (pre .1 .1)
-          (args .chain .now) (args .from + 6) (args .to) ((pre .1 .0) .ordered) ((pre .1 .0) .inside) 65537
-          (table 0 (take (length (args .work .now) - own-words .result) (drop (own-words .result) (args .work .now)))),
-      write-module .ensures .length-is,
-      (pre .1 .0) .inside,
-      (pre .1 .0) .small,
-    )
+    omega (arith, module-fits _ _ _ _ _ _ _ _ _ _ _ _ _ _ _ _ (pre .1 .0) (pre .1 .1) (write-module .ensures))
 
 write-inner-lay-head-requires : (t : ℕ) → write-inner-lts.Need-lay-head-requires (write-inner-calls t) (write-inner-at t) write-inner.Post
 write-inner-lay-head-requires t c κs = search needs
 
-write-inner-add-t31 : (t : ℕ) → write-inner-lts.Need-add-t31 (write-inner-calls t) (write-inner-at t) write-inner.Post
-write-inner-add-t31 t c =
-    let args = c .before .before .before .before .before .before .before .before .before .before .before .before .before .before .before .before .before
-    .before .before .before .before .before .before .before .args in
+write-inner-add-t38 : (t : ℕ) → write-inner-lts.Need-add-t38 (write-inner-calls t) (write-inner-at t) write-inner.Post
+write-inner-add-t38 t c =
     let pre = c .before .before .before .before .before .before .before .before .before .before .before .before .before .before .before .before .before
-    .before .before .before .before .before .before .before .pre in
-    let own-words = c .before .before .before .before .before .before .before .before .before .before .before .before .before .own-words in
+    .before .before .before .before .before .before .before .before .before .before .pre in
     let write-module = c .before .before .before .before .before .before .before .before .before .before .write-module in
-    omega (
-      arith,
-      module-bound (args .op) (args .card .now) (args .root .now) ((pre .1 .0) .small) (args .left) (pre .1 .1)
-          (args .chain .now) (args .from + 6) (args .to) ((pre .1 .0) .ordered) ((pre .1 .0) .inside) 65537
-          (table 0 (take (length (args .work .now) - own-words .result) (drop (own-words .result) (args .work .now)))),
-      write-module .ensures .length-is,
-      (pre .1 .0) .inside,
-      (pre .1 .0) .small,
-    )
+    omega (arith, module-fits _ _ _ _ _ _ _ _ _ _ _ _ _ _ _ _ (pre .1 .0) (pre .1 .1) (write-module .ensures))
 
-write-inner-same-length : (t : ℕ) → write-inner-lts.Need-same-length (write-inner-calls t) (write-inner-at t) write-inner.Post
-write-inner-same-length t c = search needs
+write-inner-same-length-3 : (t : ℕ) → write-inner-lts.Need-same-length-3 (write-inner-calls t) (write-inner-at t) write-inner.Post
+write-inner-same-length-3 t c = search needs
 
-write-inner-same-length-2 : (t : ℕ) → write-inner-lts.Need-same-length-2 (write-inner-calls t) (write-inner-at t) write-inner.Post
-write-inner-same-length-2 t c = search needs
+write-inner-same-length-4 : (t : ℕ) → write-inner-lts.Need-same-length-4 (write-inner-calls t) (write-inner-at t) write-inner.Post
+write-inner-same-length-4 t c = search needs
 
-write-inner-returns : (t : ℕ) → write-inner-lts.Need-returns (write-inner-calls t) (write-inner-at t) write-inner.Post
-write-inner-returns t c =
+write-inner-returns-2 : (t : ℕ) → write-inner-lts.Need-returns-2 (write-inner-calls t) (write-inner-at t) write-inner.Post
+write-inner-returns-2 t c =
     let args = c .before .before .before .before .before .before .before .before .before .before .before .before .before .before .before .before .before
-    .before .before .before .before .before .before .before .args in
+    .before .before .before .before .before .before .before .before .before .before .args in
     let least = c .before .before .before .before .before .before .before .before .before .before .before .before .before .before .before .before .before
-    .before .least in
-    let has-room-beside = c .before .before .before .before .before .before .before .before .before .before .before .before .before .before .before
-    .before .has-room-beside in
-    let if1 = c .before .before .before .before .before .before .before .before .before .before .before .before .before .before .before .if1 in
+    .before .before .before .before .least in
+    let is-small-beside = c .before .before .before .before .before .before .before .before .before .before .before .before .before .before .before .before
+    .before .before .before .is-small-beside in
+    let if1 = c .before .before .before .before .before .before .before .before .before .before .before .before .before .before .before .before .before
+    .before .if1 in
+    let has-room-beside = c .before .before .before .before .before .before .before .before .before .before .before .before .before .before .before .before
+    .has-room-beside in
+    let if2 = c .before .before .before .before .before .before .before .before .before .before .before .before .before .before .before .if2 in
     let own-words = c .before .before .before .before .before .before .before .before .before .before .before .before .before .own-words in
     let write-module = c .before .before .before .before .before .before .before .before .before .before .write-module in
     let lay-head = c .before .before .before .lay-head in
     beside-gives (moduleMade (args .op) (args .card .now) (args .root .now) (args .left) (args .chain .now)) (args .at) (args .from) (args .to) (args .owner)
-    (args .pairs) (args .work .now) _ (has-room-beside .ensures) (args .out .now) _ (least .ensures) (if1 .taken) _ (own-words .ensures) _ _ _ _ _ _ _
-    (write-module .ensures) (lay-head .ensures)
+    (args .pairs) (args .work .now) (args .out .now) _ (least .ensures) _ _ _ _ _ _ _ (lay-head .ensures) _ _ (is-small-beside .ensures)
+    (has-room-beside .ensures) (if1 .left) (if2 .taken) _ (own-words .ensures) (write-module .ensures)
 
 write-inner-add-write-module-2 : (t : ℕ) → write-inner-lts.Need-add-write-module-2 (write-inner-calls t) (write-inner-at t) write-inner.Post
 write-inner-add-write-module-2 t c = search needs
@@ -938,56 +987,44 @@ write-inner-write-module-requires-2 t c κs = search needs
 
 write-inner-add-lay-head-2 : (t : ℕ) → write-inner-lts.Need-add-lay-head-2 (write-inner-calls t) (write-inner-at t) write-inner.Post
 write-inner-add-lay-head-2 t c =
-    let args = c .before .before .before .before .before .before .before .before .before .before .before .before .before .before .before .before
-    .before .args in
-    let pre = c .before .before .before .before .before .before .before .before .before .before .before .before .before .before .before .before .before .pre in
+    let pre = c .before .before .before .before .before .before .before .before .before .before .before .before .before .before .before .before .before
+    .before .before .before .pre in
     let write-module2 = c .before .before .before .before .before .write-module2 in
-    omega (
-      arith,
-      module-bound (args .op) (args .card .now) (args .root .now) ((pre .1 .0) .small) (args .left) (pre .1 .1)
-          (args .chain .now) (args .from + 6) (args .to) ((pre .1 .0) .ordered) ((pre .1 .0) .inside) (args .owner) (table (args .pairs) (args .work .now)),
-      write-module2 .ensures .length-is,
-      (pre .1 .0) .inside,
-      (pre .1 .0) .small,
-    )
+    omega (arith, module-fits _ _ _ _ _ _ _ _ _ _ _ _ _ _ _ _ (pre .1 .0) (pre .1 .1) (write-module2 .ensures))
 
 write-inner-lay-head-requires-2 : (t : ℕ) → write-inner-lts.Need-lay-head-requires-2 (write-inner-calls t) (write-inner-at t) write-inner.Post
 write-inner-lay-head-requires-2 t c κs = search needs
 
-write-inner-add-t38 : (t : ℕ) → write-inner-lts.Need-add-t38 (write-inner-calls t) (write-inner-at t) write-inner.Post
-write-inner-add-t38 t c =
-    let args = c .before .before .before .before .before .before .before .before .before .before .before .before .before .before .before .before .before
-    .before .before .before .before .before .args in
+write-inner-add-t45 : (t : ℕ) → write-inner-lts.Need-add-t45 (write-inner-calls t) (write-inner-at t) write-inner.Post
+write-inner-add-t45 t c =
     let pre = c .before .before .before .before .before .before .before .before .before .before .before .before .before .before .before .before .before
-    .before .before .before .before .before .pre in
+    .before .before .before .before .before .before .before .before .pre in
     let write-module2 = c .before .before .before .before .before .before .before .before .before .before .write-module2 in
-    omega (
-      arith,
-      module-bound (args .op) (args .card .now) (args .root .now) ((pre .1 .0) .small) (args .left) (pre .1 .1)
-          (args .chain .now) (args .from + 6) (args .to) ((pre .1 .0) .ordered) ((pre .1 .0) .inside) (args .owner) (table (args .pairs) (args .work .now)),
-      write-module2 .ensures .length-is,
-      (pre .1 .0) .inside,
-      (pre .1 .0) .small,
-    )
+    omega (arith, module-fits _ _ _ _ _ _ _ _ _ _ _ _ _ _ _ _ (pre .1 .0) (pre .1 .1) (write-module2 .ensures))
 
-write-inner-same-length-3 : (t : ℕ) → write-inner-lts.Need-same-length-3 (write-inner-calls t) (write-inner-at t) write-inner.Post
-write-inner-same-length-3 t c = search needs
+write-inner-same-length-5 : (t : ℕ) → write-inner-lts.Need-same-length-5 (write-inner-calls t) (write-inner-at t) write-inner.Post
+write-inner-same-length-5 t c = search needs
 
-write-inner-same-length-4 : (t : ℕ) → write-inner-lts.Need-same-length-4 (write-inner-calls t) (write-inner-at t) write-inner.Post
-write-inner-same-length-4 t c = search needs
+write-inner-same-length-6 : (t : ℕ) → write-inner-lts.Need-same-length-6 (write-inner-calls t) (write-inner-at t) write-inner.Post
+write-inner-same-length-6 t c = search needs
 
-write-inner-returns-2 : (t : ℕ) → write-inner-lts.Need-returns-2 (write-inner-calls t) (write-inner-at t) write-inner.Post
-write-inner-returns-2 t c =
+write-inner-returns-3 : (t : ℕ) → write-inner-lts.Need-returns-3 (write-inner-calls t) (write-inner-at t) write-inner.Post
+write-inner-returns-3 t c =
     let args = c .before .before .before .before .before .before .before .before .before .before .before .before .before .before .before .before .before
-    .before .before .before .before .before .args in
-    let least = c .before .before .before .before .before .before .before .before .before .before .before .before .before .before .before .before .least in
-    let has-room-beside = c .before .before .before .before .before .before .before .before .before .before .before .before .before .before .has-room-beside in
-    let if1 = c .before .before .before .before .before .before .before .before .before .before .before .before .before .if1 in
+    .before .before .before .before .before .before .before .before .args in
+    let least = c .before .before .before .before .before .before .before .before .before .before .before .before .before .before .before .before .before
+    .before .before .least in
+    let is-small-beside = c .before .before .before .before .before .before .before .before .before .before .before .before .before .before .before .before
+    .before .is-small-beside in
+    let if1 = c .before .before .before .before .before .before .before .before .before .before .before .before .before .before .before .before .if1 in
+    let has-room-beside = c .before .before .before .before .before .before .before .before .before .before .before .before .before .before .has-room-beside
+    in
+    let if2 = c .before .before .before .before .before .before .before .before .before .before .before .before .before .if2 in
     let write-module2 = c .before .before .before .before .before .before .before .before .before .before .write-module2 in
     let lay-head2 = c .before .before .before .lay-head2 in
     alone-gives (moduleMade (args .op) (args .card .now) (args .root .now) (args .left) (args .chain .now)) (args .at) (args .from) (args .to) (args .owner)
-    (args .pairs) (args .work .now) _ (has-room-beside .ensures) (args .out .now) _ (least .ensures)
-    (if1 .left) _ _ _ _ _ _ _ (write-module2 .ensures) (lay-head2 .ensures)
+    (args .pairs) (args .work .now) (args .out .now) _ (least .ensures) _ _ _ _ _ _ _ (lay-head2 .ensures) _ _ (is-small-beside .ensures)
+    (has-room-beside .ensures) (if1 .left) (if2 .left) (write-module2 .ensures)
 
 write-mod-sub-part : (t : ℕ) → write-mod-lts.Need-sub-part (write-mod-calls t) (write-mod-at t) write-mod.Post
 write-mod-sub-part t c =
@@ -1344,9 +1381,139 @@ write-module-returns-4 t c =
     (extended .ensures) _ _ (table-of .ensures .1) (fits-room (table-of .last .1 .1 .1 .1 .1 .1 .0) _ _ (room .ensures) (omega (arith, if3 .left))) _ _ _ _ _ _
     (write-mod .ensures)
 
-pub +write-body+write-declaration+write-declarations+write-inner+write-mod+write-module-spec :
+write-saved-least-requires : (t : ℕ) → write-saved-lts.Need-least-requires (write-saved-calls t) (write-saved-at t) write-saved.Post
+write-saved-least-requires t c κs = search needs
+
+write-saved-sub-n : (t : ℕ) → write-saved-lts.Need-sub-n (write-saved-calls t) (write-saved-at t) write-saved.Post
+write-saved-sub-n t c = search needs
+
+write-saved-mul-n : (t : ℕ) → write-saved-lts.Need-mul-n (write-saved-calls t) (write-saved-at t) write-saved.Post
+write-saved-mul-n t c = search needs
+
+write-saved-sub-k : (t : ℕ) → write-saved-lts.Need-sub-k (write-saved-calls t) (write-saved-at t) write-saved.Post
+write-saved-sub-k t c = search needs
+
+write-saved-mul-saved : (t : ℕ) → write-saved-lts.Need-mul-saved (write-saved-calls t) (write-saved-at t) write-saved.Post
+write-saved-mul-saved t c = search needs
+
+write-saved-sub-saved : (t : ℕ) → write-saved-lts.Need-sub-saved (write-saved-calls t) (write-saved-at t) write-saved.Post
+write-saved-sub-saved t c = search needs
+
+write-saved-part-saved-start : (t : ℕ) → write-saved-lts.Need-part-saved-start (write-saved-calls t) (write-saved-at t) write-saved.Post
+write-saved-part-saved-start t c = search needs
+
+write-saved-part-saved-end : (t : ℕ) → write-saved-lts.Need-part-saved-end (write-saved-calls t) (write-saved-at t) write-saved.Post
+write-saved-part-saved-end t c = search needs
+
+write-saved-saved-requires : (t : ℕ) → write-saved-lts.Need-saved-requires (write-saved-calls t) (write-saved-at t) write-saved.Post
+write-saved-saved-requires t c κs = search needs
+
+write-saved-add-write-module : (t : ℕ) → write-saved-lts.Need-add-write-module (write-saved-calls t) (write-saved-at t) write-saved.Post
+write-saved-add-write-module t c = search needs
+
+write-saved-sub-write-module : (t : ℕ) → write-saved-lts.Need-sub-write-module (write-saved-calls t) (write-saved-at t) write-saved.Post
+write-saved-sub-write-module t c = search needs
+
+write-saved-part-write-module-start : (t : ℕ) → write-saved-lts.Need-part-write-module-start (write-saved-calls t) (write-saved-at t) write-saved.Post
+write-saved-part-write-module-start t c = search needs
+
+write-saved-part-write-module-end : (t : ℕ) → write-saved-lts.Need-part-write-module-end (write-saved-calls t) (write-saved-at t) write-saved.Post
+write-saved-part-write-module-end t c = search needs
+
+write-saved-mul-write-module : (t : ℕ) → write-saved-lts.Need-mul-write-module (write-saved-calls t) (write-saved-at t) write-saved.Post
+write-saved-mul-write-module t c = search needs
+
+write-saved-sub-write-module-2 : (t : ℕ) → write-saved-lts.Need-sub-write-module-2 (write-saved-calls t) (write-saved-at t) write-saved.Post
+write-saved-sub-write-module-2 t c = search needs
+
+write-saved-part-write-module-start-2 : (t : ℕ) → write-saved-lts.Need-part-write-module-start-2 (write-saved-calls t) (write-saved-at t) write-saved.Post
+write-saved-part-write-module-start-2 t c = search needs
+
+write-saved-part-write-module-end-2 : (t : ℕ) → write-saved-lts.Need-part-write-module-end-2 (write-saved-calls t) (write-saved-at t) write-saved.Post
+write-saved-part-write-module-end-2 t c = search needs
+
+write-saved-write-module-requires : (t : ℕ) → write-saved-lts.Need-write-module-requires (write-saved-calls t) (write-saved-at t) write-saved.Post
+write-saved-write-module-requires t c κs = search needs
+
+write-saved-mul-put-back : (t : ℕ) → write-saved-lts.Need-mul-put-back (write-saved-calls t) (write-saved-at t) write-saved.Post
+write-saved-mul-put-back t c =
+    let good = c .before .before .before .before .before .before .before .before .before .before .before .before .before .before .before .before .good in
+    omega (arith, good .1 .1 .1 .1 .1 .1 .1 .1 .1 .0 .1)
+
+write-saved-sub-put-back : (t : ℕ) → write-saved-lts.Need-sub-put-back (write-saved-calls t) (write-saved-at t) write-saved.Post
+write-saved-sub-put-back t c = search needs
+
+write-saved-part-put-back-start : (t : ℕ) → write-saved-lts.Need-part-put-back-start (write-saved-calls t) (write-saved-at t) write-saved.Post
+write-saved-part-put-back-start t c = search needs
+
+write-saved-part-put-back-end : (t : ℕ) → write-saved-lts.Need-part-put-back-end (write-saved-calls t) (write-saved-at t) write-saved.Post
+write-saved-part-put-back-end t c = search needs
+
+write-saved-array-share-prefix-aside : (t : ℕ) → write-saved-lts.Need-array-share-prefix-aside (write-saved-calls t) (write-saved-at t) write-saved.Post
+write-saved-array-share-prefix-aside t c = search needs
+
+write-saved-slice-aggregate-put-back : (t : ℕ) → write-saved-lts.Need-slice-aggregate-put-back (write-saved-calls t) (write-saved-at t) write-saved.Post
+write-saved-slice-aggregate-put-back t c =
+    let pre = c .before .before .before .before .before .before .before .before .before .before .before .before .before .before .before .before .before
+    .before .pre in
+    let saved = c .before .before .before .before .before .before .before .before .before .saved in
+    aside-long _ _ (pre .1 .2) _ (saved .ensures)
+
+write-saved-put-back-requires : (t : ℕ) → write-saved-lts.Need-put-back-requires (write-saved-calls t) (write-saved-at t) write-saved.Post
+write-saved-put-back-requires t c κs =
+    let pre = c .before .before .before .before .before .before .before .before .before .before .before .before .before .before .before .before .before
+    .before .pre in
+    let saved = c .before .before .before .before .before .before .before .before .before .saved in
+    let write-module = c .before .before .before .before .before .before .write-module in
+    last-again _ _ (pre .1 .2) _ (saved .ensures) (write-module .last .1 .1 .1 .1 .1 .1 .1 .1 .0)
+    (module-keeps _ _ _ _ _ _ _ _ _ _ _ _ _ _ _ (write-module .ensures))
+
+write-saved-add-lay-head : (t : ℕ) → write-saved-lts.Need-add-lay-head (write-saved-calls t) (write-saved-at t) write-saved.Post
+write-saved-add-lay-head t c =
+    let pre = c .before .before .before .before .before .before .before .before .before .before .before .before .before .before .before .before .before
+    .before .before .before .before .before .pre in
+    let write-module = c .before .before .before .before .before .before .before .before .before .before .write-module in
+    omega (arith, module-fits _ _ _ _ _ _ _ _ _ _ _ _ _ _ _ _ (pre .1 .0) (pre .1 .1) (write-module .ensures))
+
+write-saved-lay-head-requires : (t : ℕ) → write-saved-lts.Need-lay-head-requires (write-saved-calls t) (write-saved-at t) write-saved.Post
+write-saved-lay-head-requires t c κs = search needs
+
+write-saved-add-t18 : (t : ℕ) → write-saved-lts.Need-add-t18 (write-saved-calls t) (write-saved-at t) write-saved.Post
+write-saved-add-t18 t c =
+    let pre = c .before .before .before .before .before .before .before .before .before .before .before .before .before .before .before .before .before
+    .before .before .before .before .before .before .before .before .before .before .pre in
+    let write-module = c .before .before .before .before .before .before .before .before .before .before .before .before .before .before .before .write-module
+    in
+    omega (arith, module-fits _ _ _ _ _ _ _ _ _ _ _ _ _ _ _ _ (pre .1 .0) (pre .1 .1) (write-module .ensures))
+
+write-saved-returns : (t : ℕ) → write-saved-lts.Need-returns (write-saved-calls t) (write-saved-at t) write-saved.Post
+write-saved-returns t c =
+    let args = c .before .before .before .before .before .before .before .before .before .before .before .before .before .before .before .before .before
+    .before .before .before .before .before .before .before .before .before .before .args in
+    let pre = c .before .before .before .before .before .before .before .before .before .before .before .before .before .before .before .before .before
+    .before .before .before .before .before .before .before .before .before .before .pre in
+    let least = c .before .before .before .before .before .before .before .before .before .before .before .before .before .before .before .before .before
+    .before .before .before .before .least in
+    let saved = c .before .before .before .before .before .before .before .before .before .before .before .before .before .before .before .before .before
+    .before .saved in
+    let write-module = c .before .before .before .before .before .before .before .before .before .before .before .before .before .before .before .write-module
+    in
+    let aside = c .before .before .before .before .before .before .before .before .before .aside in
+    let put-back = c .before .before .before .before .before .before .before .before .put-back in
+    let lay-head = c .before .before .before .lay-head in
+    saved-gives (moduleMade (args .op) (args .card .now) (args .root .now) (args .left) (args .chain .now)) (args .at) (args .from) (args .to) 0
+    (args .pairs) (args .work .now) (args .out .now) _ (least .ensures) _ _ _ _ _ _ _ (lay-head .ensures) (pre .1 .2) _ (saved .ensures)
+    (write-module .ensures) _ (put-back .ensures)
+
+write-saved-same-length : (t : ℕ) → write-saved-lts.Need-same-length (write-saved-calls t) (write-saved-at t) write-saved.Post
+write-saved-same-length t c = wrote-long (write-saved-returns t c)
+
+write-saved-same-length-2 : (t : ℕ) → write-saved-lts.Need-same-length-2 (write-saved-calls t) (write-saved-at t) write-saved.Post
+write-saved-same-length-2 t c = saved-keeps _ _ _ (write-saved-returns t c)
+
+pub +write-body+write-declaration+write-declarations+write-inner+write-mod+write-module+write-saved-spec :
     {M : Type 1} → statement M
-+write-body+write-declaration+write-declarations+write-inner+write-mod+write-module-spec =
++write-body+write-declaration+write-declarations+write-inner+write-mod+write-module+write-saved-spec =
     close
     μ-write-body
     μ-write-declaration
@@ -1354,6 +1521,7 @@ pub +write-body+write-declaration+write-declarations+write-inner+write-mod+write
     μ-write-inner
     μ-write-mod
     μ-write-module
+    μ-write-saved
     (λ t. write-body-lts.spec (
       least-reads.Asked,
       least-reads.Learnt,
@@ -1465,6 +1633,10 @@ pub +write-body+write-declaration+write-declarations+write-inner+write-mod+write
     (λ t. write-inner-lts.spec (
       least-reads.Asked,
       least-reads.Learnt,
+      is-small-beside-reads.Asked,
+      is-small-beside-reads.Learnt,
+      write-saved-below t,
+      write-saved.Post,
       has-room-beside-reads.Asked,
       has-room-beside-reads.Learnt,
       own-words-reads.Asked,
@@ -1477,6 +1649,12 @@ pub +write-body+write-declaration+write-declarations+write-inner+write-mod+write
     (write-inner-at t)
     write-inner.Post
     (write-inner-least-requires t)
+    (write-inner-sub-is-small-beside t)
+    (write-inner-is-small-beside-requires t)
+    (write-inner-write-saved-requires t)
+    (write-inner-same-length t)
+    (write-inner-same-length-2 t)
+    (write-inner-returns t)
     (write-inner-sub-has-room-beside t)
     (write-inner-has-room-beside-requires t)
     (write-inner-own-words-requires t)
@@ -1491,10 +1669,10 @@ pub +write-body+write-declaration+write-declarations+write-inner+write-mod+write
     (write-inner-write-module-requires t)
     (write-inner-add-lay-head t)
     (write-inner-lay-head-requires t)
-    (write-inner-add-t31 t)
-    (write-inner-same-length t)
-    (write-inner-same-length-2 t)
-    (write-inner-returns t)
+    (write-inner-add-t38 t)
+    (write-inner-same-length-3 t)
+    (write-inner-same-length-4 t)
+    (write-inner-returns-2 t)
     (write-inner-add-write-module-2 t)
     (write-inner-sub-write-module-3 t)
     (write-inner-part-write-module-start-3 t)
@@ -1502,10 +1680,10 @@ pub +write-body+write-declaration+write-declarations+write-inner+write-mod+write
     (write-inner-write-module-requires-2 t)
     (write-inner-add-lay-head-2 t)
     (write-inner-lay-head-requires-2 t)
-    (write-inner-add-t38 t)
-    (write-inner-same-length-3 t)
-    (write-inner-same-length-4 t)
-    (write-inner-returns-2 t))
+    (write-inner-add-t45 t)
+    (write-inner-same-length-5 t)
+    (write-inner-same-length-6 t)
+    (write-inner-returns-3 t))
     (λ t. write-mod-lts.spec (
       part-reads.Asked,
       part-reads.Learnt,
@@ -1548,7 +1726,7 @@ pub +write-body+write-declaration+write-declarations+write-inner+write-mod+write
     (write-mod-same-length t)
     (write-mod-same-length-2 t)
     (write-mod-returns t))
-    λ t. write-module-lts.spec (
+    (λ t. write-module-lts.spec (
       part-reads.Asked,
       part-reads.Learnt,
       lay-reads.Asked,
@@ -1590,4 +1768,49 @@ pub +write-body+write-declaration+write-declarations+write-inner+write-mod+write
     (write-module-write-mod-requires t)
     (write-module-same-length-4 t)
     (write-module-same-length-5 t)
-    (write-module-returns-4 t)
+    (write-module-returns-4 t))
+    λ t. write-saved-lts.spec (
+      least-reads.Asked,
+      least-reads.Learnt,
+      saved-reads.Asked,
+      saved-reads.Learnt,
+      write-module-below t,
+      write-module.Post,
+      put-back-reads.Asked,
+      put-back-reads.Learnt,
+      lay-head-reads.Asked,
+      lay-head-reads.Learnt,
+    )
+    (write-saved-at t)
+    write-saved.Post
+    (write-saved-least-requires t)
+    (write-saved-sub-n t)
+    (write-saved-mul-n t)
+    (write-saved-sub-k t)
+    (write-saved-mul-saved t)
+    (write-saved-sub-saved t)
+    (write-saved-part-saved-start t)
+    (write-saved-part-saved-end t)
+    (write-saved-saved-requires t)
+    (write-saved-add-write-module t)
+    (write-saved-sub-write-module t)
+    (write-saved-part-write-module-start t)
+    (write-saved-part-write-module-end t)
+    (write-saved-mul-write-module t)
+    (write-saved-sub-write-module-2 t)
+    (write-saved-part-write-module-start-2 t)
+    (write-saved-part-write-module-end-2 t)
+    (write-saved-write-module-requires t)
+    (write-saved-mul-put-back t)
+    (write-saved-sub-put-back t)
+    (write-saved-part-put-back-start t)
+    (write-saved-part-put-back-end t)
+    (write-saved-array-share-prefix-aside t)
+    (write-saved-slice-aggregate-put-back t)
+    (write-saved-put-back-requires t)
+    (write-saved-add-lay-head t)
+    (write-saved-lay-head-requires t)
+    (write-saved-add-t18 t)
+    (write-saved-same-length t)
+    (write-saved-same-length-2 t)
+    (write-saved-returns t)

@@ -82,6 +82,31 @@ pub fn crowded() -> Vec<u8> {
     module("m", &body)
 }
 
+/// A module that leaves room for few pairs more, and nested modules that are too large to borrow words of its table, each
+/// followed by a declaration with a path under the parent's prefix: the parent is collected again after each.
+pub fn evicting() -> Vec<u8> {
+    let mut draws = Draws(7);
+    let own = draws.names(490, 3);
+    let inner = draws.names(17, 4);
+    let types = draws.names(22, 5);
+    let mut body: Vec<Bytes> = own.iter().map(|name| nested(extern_module(name))).collect();
+    for (i, name) in inner.iter().enumerate() {
+        let inside: Vec<Bytes> =
+            types.iter().map(|t| implementation(&[], ty(&format!("::{t}")), &[])).collect();
+        body.push(nested(module(name, &inside)));
+        body.push(implementation(&[], ty(&format!("crate::m::{}", own[i])), &[]));
+    }
+    module("m", &body)
+}
+
+/// So many names, at most 512, of equal length and with equal sums of bytes times powers of 31: a hash that is such a sum
+/// takes them all for one. Each is that of a path type under Global.
+pub fn colliding(count: usize) -> Vec<u8> {
+    let name = |i: usize| -> String { (0..9).map(|bit| ["Aa", "BB"][i >> bit & 1]).collect() };
+    let body = (0..count).map(|i| implementation(&[], ty(&format!("::{}", name(i))), &[]));
+    module("m", &body.collect::<Vec<_>>())
+}
+
 /// A function with so many formals, each a path type with as many types around it as may be.
 pub fn deep_types(formals: usize) -> Vec<u8> {
     let mut draws = Draws(5);

@@ -171,6 +171,8 @@ fn of_classes() -> Vec<Class> {
     list.push(one("one name", classes::one_name(512)));
     list.push(one("nested", classes::nested_modules(200)));
     list.push(one("crowded", classes::crowded()));
+    list.push(one("evicting", classes::evicting()));
+    list.push(one("colliding", classes::colliding(480)));
     list.push(one("deep types", classes::deep_types(50)));
     list
 }

@@ -50,11 +50,11 @@ use Rattle.tables.specs.Tables.{tableOf, hasRoom, isSmall, lastWords}
 use Rattle.tables.proofs.Owner.{owner-has}
 use Rattle.rewriting.specs.Imports.{importsBytes}
 use Rattle.rewriting.specs.Rewrites.{declaration}
-use Rattle.rewriting.proofs.Walks.{rewrite-walks}
+use Rattle.rewriting.proofs.Walks.{alone-kind, rewrite-walks}
 use Rattle.modules.specs.Modules.{Made, made, nestedMade, savedMade, besideMade, innerMade, eachMade, modMade, declarationMade, bodyMade, moduleMade}
 use Rattle.modules.proofs.Keeps.{table-length, beside-length, held-length}
 use Rattle.modules.proofs.Inner.{ends-within, inner-prefix, inner-canonical}
-use Rattle.modules.proofs.Contents.{span-there, alone-kind, holds-one, one-ends, Mod, Ahead, mod-content, ahead-is, body-ends, body-starts, mod-whole}
+use Rattle.modules.proofs.Contents.{span-there, holds-one, one-ends, Mod, Ahead, mod-content, ahead-is, body-ends, body-starts, mod-whole}
 use Rattle.modules.proofs.States.{found, Ready, settled-ready, Holds, holds-on, After, same, other, scopeAt, Stands, Applied, walked, Declared, Declares}
 use Rattle.modules.proofs.Each.{all-declared}
 

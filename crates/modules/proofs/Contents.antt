@@ -1,27 +1,22 @@
 -- The bytes of a Mod: what stands ahead of its body, where its declarations start, and the Mod put together again. Assumes nothing.
 use mathlib.Core.Path.{_≡_, refl, ap, sym, _∙_}
-use mathlib.Core.List.{[], _++_, append-assoc, append-nil}
+use mathlib.Core.List.{_++_, append-assoc, append-nil}
 use Prim.Native.Nat.{ℕ, _+_, _-_}
 use native.Mathlib.Omega.{arith}
 use lib.ListN.{length, take, length-append}
 use lib.Seq.{take-at}
 use Rattle.wire.specs.Numbers.{Bytes, between}
-use Rattle.records.specs.Record.{Record, Records, node, nil, _▸_, _▸▸_, recordBytes, encode, encodeAll, kindOf, contentOf, restOf, kind, first, skip}
+use Rattle.records.specs.Record.{Record, Records, node, nil, _▸_, _▸▸_, recordBytes, encode, encodeAll, contentOf, restOf, first, skip}
 use Rattle.records.specs.Canonical.{Canonical}
 use Rattle.records.proofs.Tree.{record-length}
-use Rattle.records.proofs.Front.{inside, encode-kind, encode-content, encode-rest}
+use Rattle.records.proofs.Front.{encode-rest}
 use Rattle.records.proofs.Starts.{Starts, AllStart, starts-there, content-start, first-starts, skip-start}
+use Rattle.rewriting.proofs.Walks.{alone-content}
 use Rattle.modules.specs.Modules.{bodyIn, aheadIn}
 
 -- a record's bytes alone, where it starts and ends
 pub span-there : {s : Bytes} {o : ℕ} {r : Record} → Starts s o r → between s o (o + length (encode r)) ≡ encode r
 span-there {s} {o} {r} p = let e : o + length (encode r) - o ≡ length (encode r) = omega arith in rw e (starts-there p)
-
-pub alone-kind : (r : Record) → Canonical r → kindOf (encode r) ≡ kind r
-alone-kind r h = ap kindOf (sym (append-nil (encode r))) ∙ encode-kind r [] h
-
-alone-content : (r : Record) → Canonical r → contentOf (encode r) ≡ inside r
-alone-content r h = ap contentOf (sym (append-nil (encode r))) ∙ encode-content r [] h
 
 encode-append : (b c : Records) → encodeAll (b ▸▸ c) ≡ encodeAll b ++ encodeAll c
 unfolding encodeAll _▸▸_

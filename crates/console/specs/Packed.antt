@@ -1,17 +1,13 @@
 -- What the exported call promises: the public call's promise, with the answer packed and words of its own. Assumes nothing: these are definitions.
 use mathlib.Core.Path.{_≡_}
 use Prim.Native.Nat.{ℕ, _+_, _*_, _^_, _<_}
-use lib.ListN.{take, replicate}
+use lib.ListN.{take}
 use Rattle.answers.specs.declared.Answer.the-variants.{Shortened}
 use Rattle.answers.specs.Answers.{number, value}
 use Rattle.wire.specs.Numbers.{Bytes}
 use Rattle.rast.specs.Operation.{upstream}
-use Rattle.outcome.specs.Outcome.{Outcome, shorten}
+use Rattle.shortening.specs.Shortened.{called}
 use Rattle.points.specs.Points.{NamesHold}
-
--- with 2,048 work words, which are zero
-abbrev pub called : (card root out : Bytes) → Outcome
-called card root out = shorten upstream card root out (replicate 2048 0)
 
 pub record PackedPromise (card root out : Bytes) (answer : ℕ) (out′ : Bytes) : Type 0 where
   -- demands 1 and 2; the number times 2 ^ 32, plus the length or place

@@ -76,11 +76,12 @@ module _ (op : Shortening) (card root : Bytes) (n : ℕ) (sound : admitted (oper
   unfolding Canonical
   body-of h =
       let c = reads .is-card .canonical in
-      let m : Canonical (node 0x60 (h .doc ▸ h .attributes ▸ h .named ▸ node 0x02 (h .body) ▸ nil)) = rw (h .is-mod) at c in
-      (m .3 .1 .1 .1 .0 .3,
-      rw (← reads .is-card .encoded, h .is-mod)
-      (ap bodyIn′ (mod-content (h .doc) (h .attributes) (h .named) (h .body) m) ∙ ap contentOf (body-is (h .doc) (h .attributes) (h .named) (h .body) m)
-      ∙ alone-content (node 0x02 (h .body)) (m .3 .1 .1 .1 .0)))
+      let m : Canonical (node 0x60 (h .doc ▸ h .attributes ▸ h .named ▸ node 0x02 (h .body) ▸ nil)) = rw (h .is-mod) at c in (
+        m .3 .1 .1 .1 .0 .3,
+        rw (← reads .is-card .encoded, h .is-mod)
+            (ap bodyIn′ (mod-content (h .doc) (h .attributes) (h .named) (h .body) m) ∙ ap contentOf (body-is (h .doc) (h .attributes) (h .named) (h .body) m)
+            ∙ alone-content (node 0x02 (h .body)) (m .3 .1 .1 .1 .0)),
+      )
     where
       bodyIn′ : Bytes → Bytes
       bodyIn′ c = contentOf (restOf (restOf (restOf c)))

@@ -35,7 +35,7 @@ use Rattle.modules.proofs.Keeps.{table-length}
 use Rattle.modules.proofs.Outermost.{Outermost, Own, admitted-reads, outermost-is, outermost-again, collected-own}
 use Rattle.measuring.specs.declared.Written.the-variants.{Full, Length}
 use Rattle.fitting.specs.Fitting.{surelyFits, isRoomy}
-use Rattle.measuring.specs.Measured.{Output, output, measured, written, direct, inTwo, outermost, collected, wholeOutput}
+use Rattle.measuring.specs.Measured.{Output, output, firstMade, written, direct, inTwo, outermost, collected, wholeOutput}
 use Rattle.measuring.proofs.Roomy.{roomy-none, roomy-fits}
 
 -- each operation's outputs are at most 42 times their cards
@@ -83,21 +83,21 @@ module _ (op : Shortening) (card root : Bytes) (n : ℕ) (sound : admitted (oper
     abbrev Words : List ℕ
     Words = held .words
 
-    first : Outermost op card root (room Words) held (measured op card root owner held)
-    unfolding measured
+    first : Outermost op card root (room Words) held (firstMade op card root owner held)
+    unfolding firstMade
     first = rw (is-module owner held) (outermost-is op card root n sound bc br owner held own)
 
-    second : Outermost op card root (room Words) (measured op card root owner held .held) (written op card root owner held)
+    second : Outermost op card root (room Words) (firstMade op card root owner held .held) (written op card root owner held)
     unfolding written
     second =
-        rw (is-module (measured op card root owner held .owner) (measured op card root owner held .held))
-        (outermost-again op card root n sound bc br held (measured op card root owner held) first)
+        rw (is-module (firstMade op card root owner held .owner) (firstMade op card root owner held .held))
+        (outermost-again op card root n sound bc br held (firstMade op card root owner held) first)
 
     -- written at once: no table is full, and the output has room
     at-once : (out : Bytes) → FullAt (room Words) ≡ none → length Bytes′ ≤ length out → Result Words out (direct op card root owner held out)
     unfolding direct
     at-once out e fits =
-        let zero-full : measured op card root owner held .full ≡ 0 = first .full ∙ ap (λ (x : Option ℕ). whether x 0 suc) e in
+        let zero-full : firstMade op card root owner held .full ≡ 0 = first .full ∙ ap (λ (x : Option ℕ). whether x 0 suc) e in
         let b = first .bytes e in
         rw (zero-full, b)
         (record {
@@ -113,7 +113,7 @@ module _ (op : Shortening) (card root : Bytes) (n : ℕ) (sound : admitted (oper
       where
         go : (o : Option ℕ) → FullAt (room Words) ≡ o → Result Words out (inTwo op card root owner held out)
         go none e =
-            let zero-full : measured op card root owner held .full ≡ 0 = first .full ∙ ap (λ (x : Option ℕ). whether x 0 suc) e in
+            let zero-full : firstMade op card root owner held .full ≡ 0 = first .full ∙ ap (λ (x : Option ℕ). whether x 0 suc) e in
             let b = first .bytes e in
             let b₂ = second .bytes e in
             by-test (ltb (length out) (length Bytes′))
@@ -125,7 +125,7 @@ module _ (op : Shortening) (card root : Bytes) (n : ℕ) (sound : admitted (oper
               words-long = second .long ∙ first .long;
             }))
         go (some place) e =
-            let some-full : measured op card root owner held .full ≡ suc place = first .full ∙ ap (λ (x : Option ℕ). whether x 0 suc) e in
+            let some-full : firstMade op card root owner held .full ≡ suc place = first .full ∙ ap (λ (x : Option ℕ). whether x 0 suc) e in
             let less : suc place - 1 ≡ place = omega arith in
             rw (some-full, lt-ltb 0 (suc place) (omega arith), less) (record { answer-is = rw e; out-is = rw e; words-long = first .long })
 

@@ -17,7 +17,7 @@ use Rattle.modules.specs.Modules.{Made, cardMade}
 use Rattle.writing.specs.Wrote.{Wrote}
 use Rattle.measuring.specs.declared.Written.the-variants.{Full, Length}
 use Rattle.fitting.specs.Fitting.{surelyFits, isRoomy}
-use Rattle.measuring.specs.Measured.{Output, output, measured, written, direct, inTwo, outermost, collected, wholeOutput}
+use Rattle.measuring.specs.Measured.{Output, output, firstMade, written, direct, inTwo, outermost, collected, wholeOutput}
 
 -- nothing is laid over no bytes
 none-laid : (b : Bytes) → lay [] 0 b ≡ []
@@ -34,11 +34,11 @@ module _ (op : Shortening) (card root : Bytes) (owner₀ : ℕ) (held₀ : Table
   held = ap (λ (t : Table). t .words) (w .held-is)
 
   pub direct-full : 0 < full → output (Full (full - 1)) after words₁ ≡ direct op card root owner₀ held₀ out
-  unfolding direct measured
+  unfolding direct firstMade
   direct-full h = rw (held, w .laid, w .full-is) (rw (lt-ltb 0 (M .full) (rw (w .full-is) at h)))
 
   pub direct-gives : full ≤ 0 → output (Length len) after words₁ ≡ direct op card root owner₀ held₀ out
-  unfolding direct measured
+  unfolding direct firstMade
   direct-gives h = rw (held, w .laid, w .length-is) (rw (le-ltb 0 (M .full) (rw (w .full-is) at h)))
 
 -- measured first
@@ -48,35 +48,35 @@ module _ (op : Shortening) (card root : Bytes) (owner₀ : ℕ) (held₀ : Table
   pub same-out : part ++ drop 0 out ≡ out
   same-out = ap (λ (x : Bytes). x ++ out) (w .laid ∙ none-laid _)
 
-  is-full : full ≡ measured op card root owner₀ held₀ .full
-  unfolding measured
+  is-full : full ≡ firstMade op card root owner₀ held₀ .full
+  unfolding firstMade
   is-full = w .full-is
 
-  is-length : len ≡ length (measured op card root owner₀ held₀ .bytes)
-  unfolding measured
+  is-length : len ≡ length (firstMade op card root owner₀ held₀ .bytes)
+  unfolding firstMade
   is-length = w .length-is
 
-  is-words : words₁ ≡ measured op card root owner₀ held₀ .held .words
-  unfolding measured
+  is-words : words₁ ≡ firstMade op card root owner₀ held₀ .held .words
+  unfolding firstMade
   is-words = ap (λ (t : Table). t .words) (w .held-is)
 
   again : cardMade op card root owner (table pairs words₁) ≡ written op card root owner₀ held₀
-  unfolding written measured
+  unfolding written firstMade
   again = ap₂ (cardMade op card root) (w .owner-is) (w .held-is)
 
   pub full-gives : 0 < full → output (Full (full - 1)) (part ++ drop 0 out) words₁ ≡ inTwo op card root owner₀ held₀ out
   unfolding inTwo
-  full-gives h = rw (same-out, is-words, is-full) (rw (lt-ltb 0 (measured op card root owner₀ held₀ .full) (rw is-full at h)))
+  full-gives h = rw (same-out, is-words, is-full) (rw (lt-ltb 0 (firstMade op card root owner₀ held₀ .full) (rw is-full at h)))
 
   module _ (z : full ≤ 0) where
-    none-full : ltb 0 (measured op card root owner₀ held₀ .full) ≡ false
-    none-full = le-ltb 0 (measured op card root owner₀ held₀ .full) (rw is-full at z)
+    none-full : ltb 0 (firstMade op card root owner₀ held₀ .full) ≡ false
+    none-full = le-ltb 0 (firstMade op card root owner₀ held₀ .full) (rw is-full at z)
 
     pub no-room-gives : length (part ++ drop 0 out) < len → output (Length len) (part ++ drop 0 out) words₁ ≡ inTwo op card root owner₀ held₀ out
     unfolding inTwo
     no-room-gives h =
         rw (same-out, is-words, is-length)
-        (rw (none-full, lt-ltb (length out) (length (measured op card root owner₀ held₀ .bytes)) (rw (same-out, is-length) at h)))
+        (rw (none-full, lt-ltb (length out) (length (firstMade op card root owner₀ held₀ .bytes)) (rw (same-out, is-length) at h)))
 
     pub room-gives : len ≤ length (part ++ drop 0 out) → {after : Bytes} {words₂ : List ℕ} {len₂ full₂ owner₂ pairs₂ : ℕ}
         → Wrote (part ++ drop 0 out) after words₂ len₂ full₂ owner₂ pairs₂ (cardMade op card root owner (table pairs words₁))
@@ -84,7 +84,7 @@ module _ (op : Shortening) (card root : Bytes) (owner₀ : ℕ) (held₀ : Table
     unfolding inTwo
     room-gives h x =
         rw (x .laid, same-out, ap (λ (t : Table). t .words) (x .held-is), again, is-length)
-        (rw (none-full, le-ltb (length out) (length (measured op card root owner₀ held₀ .bytes)) (rw (same-out, is-length) at h)))
+        (rw (none-full, le-ltb (length out) (length (firstMade op card root owner₀ held₀ .bytes)) (rw (same-out, is-length) at h)))
 
 -- which of them
 module _ (op : Shortening) (card root : Bytes) (words : List ℕ) (out : Bytes) where

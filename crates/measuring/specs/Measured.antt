@@ -1,5 +1,5 @@
 -- The output is measured before a byte of it is written (01, "The console's answers": 8 and 9 leave the out buffer), unless it surely has room, and every table
--- too. Assumes nothing: these are definitions.
+-- too, as it has over a sound card where `surelyFits` or `isRoomy` say so. Assumes nothing: these are definitions.
 use mathlib.Core.Bool.{cond}
 use mathlib.Core.List.{List, [], _∷_}
 use Prim.Native.Nat.{ℕ, _-_}
@@ -28,24 +28,24 @@ output answer out words = record { answer = answer; out = out; words = words }
 
 module _ (op : Shortening) (card root : Bytes) where
   -- by words that hold this table, of the module at a place: at place 65537 stands none
-  unfoldable pub measured : ℕ → Table → Made
-  measured owner held = cardMade op card root owner held
+  unfoldable pub firstMade : ℕ → Table → Made
+  firstMade owner held = cardMade op card root owner held
 
   -- and once more, by the words as they are then
   unfoldable pub written : ℕ → Table → Made
-  written owner held = cardMade op card root (measured owner held .owner) (measured owner held .held)
+  written owner held = cardMade op card root (firstMade owner held .owner) (firstMade owner held .held)
 
   -- written at once
   unfoldable pub direct : ℕ → Table → Bytes → Output
   direct owner held out =
-      let m : Made = measured owner held in
+      let m : Made = firstMade owner held in
       cond (ltb 0 (m .full)) (output (Full (m .full - 1)) (lay out 0 (m .bytes)) (m .held .words))
       (output (Length (length (m .bytes))) (lay out 0 (m .bytes)) (m .held .words))
 
   -- measured, and then written where there is room
   unfoldable pub inTwo : ℕ → Table → Bytes → Output
   inTwo owner held out =
-      let m : Made = measured owner held in
+      let m : Made = firstMade owner held in
       let w : Made = written owner held in
       let n : ℕ = length (m .bytes) in
       cond (ltb 0 (m .full)) (output (Full (m .full - 1)) out (m .held .words))

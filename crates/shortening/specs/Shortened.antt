@@ -29,10 +29,14 @@ pub record Promise (card root out : Bytes) (work : List ℕ) (answer : Answer) (
   -- demand 3: where it accepts, every shortened name, looked up, gives back the path that stood there, and nothing else changed
   pub names : (n : ℕ) → answer ≡ Shortened n → NamesHold upstream card root (take n out′)
 
--- the same, where the work words are its own: with 2,048 of them, which are zero
+-- as if 2,048 work words that are zero were lent
+abbrev pub called : (card root out : Bytes) → Outcome
+called card root out = shorten upstream card root out (replicate 2048 0)
+
+-- the same of a call with work words of its own, which may be fewer
 pub record Alone (card root out : Bytes) (answer : Answer) (out′ : Bytes) : Type 0 where
-  pub answer-is : answer ≡ shorten upstream card root out (replicate 2048 0) .answer
-  pub out-is : out′ ≡ shorten upstream card root out (replicate 2048 0) .out
+  pub answer-is : answer ≡ called card root out .answer
+  pub out-is : out′ ≡ called card root out .out
   pub names : (n : ℕ) → answer ≡ Shortened n → NamesHold upstream card root (take n out′)
 
 -- what such a call goes on with: a card and a root that are admitted

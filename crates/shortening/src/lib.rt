@@ -1,4 +1,4 @@
-// The public call: a card is admitted, its output measured, and written where it has room; the work words are zero after it.
+// The public call: a card is admitted, and its output written where it has room; the work words are zero after it. And the same with work words of its own.
 use answers::Answer;
 use answers::Verdict;
 use measuring::Written;
@@ -49,6 +49,7 @@ fn shorten_small(card: &[u8], root: &[u8], out: &mut [u8]) -> Answer
     answer_of(w, out.len())
 }
 
+// By 2048 work words.
 fn shorten_large(card: &[u8], root: &[u8], out: &mut [u8]) -> Answer
     requires { ⌜ Admitted (now card) (now root) ⌝ }
     ensures { λ r. ⌜ Alone (now (card .entry)) (now (root .entry)) (now (out .entry)) r (now (out .exit)) ⌝ }
@@ -58,7 +59,7 @@ fn shorten_large(card: &[u8], root: &[u8], out: &mut [u8]) -> Answer
     answer_of(w, out.len())
 }
 
-// With work words of its own: what `shorten` answers with 2048. They are made once the card is known to need them, and nobody sees them after the call.
+// With work words of its own: what `shorten` answers with 2048. They are made once the card is admitted, and nobody sees them after the call.
 pub fn shorten_alone(card: &[u8], root: &[u8], out: &mut [u8]) -> Answer
     ensures { λ r. ⌜ Alone (now (card .entry)) (now (root .entry)) (now (out .entry)) r (now (out .exit)) ⌝ }
 {

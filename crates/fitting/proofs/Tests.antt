@@ -2,10 +2,11 @@
 use mathlib.Core.Path.{_≡_, refl, sym, ap, _∙_}
 use mathlib.Core.Bool.{Bool, true, false, _&&_, cond}
 use mathlib.Core.List.{List, [], _∷_}
-use Prim.Native.Nat.{ℕ, _+_, _-_, _*_, _/_, _^_, _<_, _≤_, min}
+use Prim.Native.Nat.{ℕ, _+_, _-_, _*_, _/_, _%_, _^_, _<_, _≤_, min}
+use native.Mathlib.Numerals.{add-one}
 use native.Mathlib.Omega.{arith}
-use lib.ListN.{length, take, drop, length-take, length-drop}
-use lib.Seq.{drop-drop, take-all}
+use lib.ListN.{length, take, drop, getD, length-take, length-drop}
+use lib.Seq.{drop-drop, take-all, length-take-le}
 use lib.Dec.{eqb, leb, ltb}
 use borrow.Author.Tests.{lt-leb, le-leb, leb-true, leb-false, eq-eqb, ne-eqb}
 use Rattle.wire.specs.Numbers.{Bytes}
@@ -14,15 +15,14 @@ use Rattle.records.specs.Reading.{short}
 use Rattle.records.proofs.Tree.{long-enough}
 use Rattle.rast.proofs.Tests.{by-test}
 use Rattle.prefix.specs.Prefix.{Scope}
-use Rattle.chains.specs.Chains.{room}
+use Rattle.chains.specs.Chains.{room, wordAt}
 use Rattle.adding.specs.Adds.{table}
 use Rattle.adding.specs.Settles.{ownWords}
 use Rattle.gathering.proofs.Spans.{kind-front}
-use Rattle.rewriting.specs.Imports.{importsBytes}
 use Rattle.rewriting.specs.Rewrites.{partsOf}
 use Rattle.rewriting.proofs.Parts.{parts-none, parts-step}
 use Rattle.growth.specs.Grows.{cardGrowth}
-use Rattle.fitting.specs.Fitting.{surelyFits, areFew, nestedFew, isRoomy}
+use Rattle.fitting.specs.Fitting.{surelyFits, areFew, nestedFew, useMost, usesMost, isRoomy}
 
 -- by the card's length
 module _ (card out : Bytes) (words : List ℕ) where
@@ -121,13 +121,37 @@ own-part words pairs k e =
     (λ t. let l = leb-true (4 * pairs) (length words) t in let z : k ≡ 4 * pairs = omega arith in rw z)
     (λ t. let l = leb-false (4 * pairs) (length words) t in take-all k words (omega arith) ∙ sym (take-all (4 * pairs) words (omega arith)))
 
+-- they have room for the pairs
+pub own-room : (words : List ℕ) (pairs k : ℕ) {most : ℕ} → most ≡ room words → pairs ≤ most → k ≡ min (4 * pairs) (length words)
+    → pairs ≤ room (take k words)
+own-room words pairs k e h o = let l = length-take-le k words (omega arith) in omega arith
+
+-- the use of one pair, by its words
+module _ (card : Bytes) (words : List ℕ) (i : ℕ) {w : ℕ} (e : w ≡ wordAt words i) where
+  pub use-none : w % 65536 ≡ 0 → 0 ≡ useMost card words i
+  unfolding useMost
+  use-none h = rw (← e, eq-eqb (w % 65536) 0 h)
+
+  pub use-is : (w % 65536 ≡ 0 → ⊥) → {s : Bytes} → s ≡ take (length card) (drop (w % 65536) card) → {m : ℕ} → m ≡ lengthOf s
+      → {l : ℕ} → l ≡ getD words (4 * i + 1) 0 → 31 + l + (4 + m) ≡ useMost card words i
+  unfolding useMost
+  use-is h p q r =
+      let d = length-drop (w % 65536) card in
+      rw (← e, ne-eqb (w % 65536) 0 h, q, p, take-all (length card) (drop (w % 65536) card) (omega arith), r)
+
+-- and of one pair more
+pub uses-next : (card : Bytes) (words : List ℕ) (i : ℕ) {n u : ℕ} → n ≡ usesMost card words i → u ≡ useMost card words i
+    → n + u ≡ usesMost card words (i + 1)
+unfolding usesMost
+uses-next card words i e f = rw (add-one i, ← e, ← f)
+
 -- by the outermost module's table
 module _ (s : Scope) (lent pairs : ℕ) (words : List ℕ) where
   abbrev Roomy : Bool
   Roomy = isRoomy s lent (table pairs words)
 
   abbrev Uses : ℕ
-  Uses = length (importsBytes s (ownWords (table pairs words)) pairs)
+  Uses = usesMost (s .card) (ownWords (table pairs words)) pairs
 
   abbrev Bound : ℕ
   Bound = length (s .card) + cardGrowth (s .op) (s .card) + Uses
@@ -152,9 +176,9 @@ module _ (s : Scope) (lent pairs : ℕ) (words : List ℕ) where
       roomy-grown l = over (omega arith)
 
       module _ (j : grown ≤ lent - length (s .card)) {k : ℕ} (o : k ≡ min (4 * pairs) (length words)) {uses : ℕ}
-          (u : uses ≡ length (importsBytes s (take k words) pairs)) where
+          (u : uses ≡ usesMost (s .card) (take k words) pairs) where
         uses-are : uses ≡ Uses
-        uses-are = u ∙ ap (λ (x : List ℕ). length (importsBytes s x pairs)) (own-part words pairs k o)
+        uses-are = u ∙ ap (λ (x : List ℕ). usesMost (s .card) x pairs) (own-part words pairs k o)
 
         pub roomy-uses : lent - length (s .card) - grown < uses → false ≡ Roomy
         roomy-uses l = let w = uses-are in over (omega arith)

@@ -2,13 +2,12 @@
 use operation::Shortening;
 ghost use mathlib.Core.Path.{_≡_};
 ghost use mathlib.Core.Bool.{_&&_};
-ghost use Prim.Native.Nat.{_/_};
-ghost use lib.ListN.{length};
+ghost use Prim.Native.Nat.{_/_, _^_, _<_, _≤_};
 ghost use lib.Dec.{eqb, ltb};
 ghost use Rattle.prefix.specs.Prefix.{scope};
+ghost use Rattle.chains.specs.Chains.{room};
 ghost use Rattle.adding.specs.Adds.{table};
-ghost use Rattle.rewriting.specs.Imports.{importsBytes};
-ghost use Rattle.fitting.specs.Fitting.{surelyFits, nestedFew, isRoomy};
+ghost use Rattle.fitting.specs.Fitting.{surelyFits, nestedFew, useMost, usesMost, isRoomy};
 
 // By the card's length alone: an output is at most 42 times as long as its card, and a pair takes 18 bytes of a card.
 pub fn surely_fits(card: &[u8], out: &[u8], work: &[u32]) -> bool
@@ -52,19 +51,32 @@ fn has_few(card: &[u8], most: usize) -> bool
     true
 }
 
-// How long the uses of a table of n pairs are.
-fn uses_length(
-    op: Shortening,
-    card: &[u8],
-    root: &[u8],
-    chain: &[usize],
-    work: &[u32],
-    n: usize,
-) -> usize
-    ensures { λ r. ⌜ r ≡ length (importsBytes (scope op (now (card .entry)) (now (root .entry)) (now (chain .entry))) (now (work .entry)) n) ⌝ }
+// How long the use of the pair that i pairs stand ahead of can be at most: the base that is chosen for its name is not looked up.
+fn use_most(card: &[u8], work: &[u32], i: usize) -> usize
+    requires { ⌜ i < room (now work) ⌝ }
+    ensures { λ r. ⌜ (r ≡ useMost (now (card .entry)) (now (work .entry)) i) × (r < 2 ^ 34) ⌝ }
 {
-    let mut none: [u8; 1] = [0];
-    importing::write_imports(op, card, root, chain, work, n, &mut none[..0])
+    let k = 4 * i;
+    let place = wire::word(work[k + 2]) % 65536;
+    if place == 0 {
+        return 0;
+    }
+    let base = 4 + reader::record_length(wire::part(card, place, card.len()));
+    31 + wire::word(work[k + 1]) + base
+}
+
+// And those of n pairs.
+fn uses_most(card: &[u8], work: &[u32], n: usize) -> usize
+    requires { ⌜ n ≤ room (now work) ⌝ }
+    ensures { λ r. ⌜ r ≡ usesMost (now (card .entry)) (now (work .entry)) n ⌝ }
+{
+    let mut sum: usize = 0;
+    let mut i = 0;
+    while i < n {
+        sum += use_most(card, work, i);
+        i += 1;
+    }
+    sum
 }
 
 // By the outermost module's table, which has so many pairs, where so many bytes are lent.
@@ -92,7 +104,7 @@ pub fn is_roomy(
         return false;
     }
     let k = tables::own_words(work, pairs);
-    if over - grown < uses_length(op, card, root, chain, &work[..k], pairs) {
+    if over - grown < uses_most(card, &work[..k], pairs) {
         return false;
     }
     has_few(card, most)

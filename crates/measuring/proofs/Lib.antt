@@ -1,3 +1,4 @@
 pub mod Tests
+pub mod Uses
 pub mod Roomy
 pub mod Sound

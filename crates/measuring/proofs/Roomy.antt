@@ -29,16 +29,16 @@ use Rattle.operation.specs.Operations.{operationOf}
 use Rattle.chains.specs.Chains.{room}
 use Rattle.adding.specs.Adds.{Table}
 use Rattle.adding.specs.Settles.{ownWords}
-use Rattle.rewriting.specs.Imports.{importsBytes}
 use Rattle.rewriting.specs.Rewrites.{partsOf}
 use Rattle.rewriting.proofs.Parts.{encodeEach, parts-all}
 use Rattle.growth.specs.Grows.{cardGrowth}
 use Rattle.growth.proofs.Grown.{card-grows}
-use Rattle.fitting.specs.Fitting.{areFew, bodyOf, nestedFew, isRoomy}
+use Rattle.fitting.specs.Fitting.{areFew, bodyOf, nestedFew, usesMost, isRoomy}
 use Rattle.rewriting.proofs.Walks.{alone-kind, alone-content}
 use Rattle.modules.proofs.Contents.{mod-content, body-is}
-use Rattle.modules.proofs.Outermost.{Prefix, Own, Reads, admitted-reads, own-uses}
+use Rattle.modules.proofs.Outermost.{Prefix, Own, Reads, admitted-reads}
 use Rattle.measuring.specs.Measured.{outermost}
+use Rattle.measuring.proofs.Uses.{uses-fit}
 
 -- a declaration that is not too large
 few-first : (most : ℕ) (d : Record) (c : Records) → Canonical d → areFew most (encodeEach (d ▸ c)) ≡ true
@@ -96,7 +96,7 @@ module _ (op : Shortening) (card root : Bytes) (n : ℕ) (sound : admitted (oper
     Most = room (t .words)
 
     abbrev Bound : ℕ
-    Bound = length card + cardGrowth op card + length (importsBytes (outermost op card root) (ownWords t) (t .count))
+    Bound = length card + cardGrowth op card + usesMost card (ownWords t) (t .count)
 
     tests : (t .count ≤ Most) × (Bound ≤ length out) × (nestedFew card Most ≡ true)
     unfolding isRoomy
@@ -119,6 +119,6 @@ module _ (op : Shortening) (card root : Bytes) (n : ℕ) (sound : admitted (oper
     pub roomy-fits : length (encode (apply (operationOf op) (tree root) (tree card))) ≤ length out
     roomy-fits =
         let g = grows op sound (reads .small) in
-        let u = ap length (own-uses op card root n sound bc br t own (tests .0)) in
+        let u = uses-fit op card root (operationOf op .rootDepth) reads t own (tests .0) in
         let b = tests .1 in
         omega arith

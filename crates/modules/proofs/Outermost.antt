@@ -2,16 +2,14 @@
 use mathlib.Core.Path.{_≡_, ap, sym, subst, _∙_}
 use mathlib.Core.List.{List, [], append-nil}
 use mathlib.Core.Option.{none}
-use Prim.Native.Nat.{ℕ, _+_, _*_, _/_, _<_, _≤_, min}
+use Prim.Native.Nat.{ℕ, _+_, _/_, _<_, _≤_, min}
 use native.Mathlib.Nat.{le-refl}
 use native.Mathlib.Omega.{arith}
 use lib.ListN.{length, getD}
-use lib.Seq.{length-take-le}
-use borrow.Author.Tests.{le-ltb}
 use Rattle.answers.specs.declared.Verdict.the-variants.{Sound}
 use Rattle.wire.specs.Numbers.{Bytes}
 use Rattle.wire.proofs.Numbers.{are-bytes}
-use Rattle.records.specs.Record.{encode, encodeAll, tree, deep}
+use Rattle.records.specs.Record.{encode, tree, deep}
 use Rattle.records.specs.Kinds.{path, mod′}
 use Rattle.records.proofs.Sound.{ReadsAs, sound-reads}
 use Rattle.records.proofs.Starts.{Starts}
@@ -19,27 +17,22 @@ use Rattle.rast.specs.Path.{Path, MSel}
 use Rattle.rast.specs.Operation.{upstream}
 use Rattle.rast.specs.Mod.{nameOf}
 use Rattle.factor_paths.specs.Mapping.{Mapping}
-use Rattle.factor_paths.specs.Apply.{mappings, pathsToRemove, imports, apply}
-use Rattle.factor_paths.proofs.Visits.{mappings-good}
+use Rattle.factor_paths.specs.Apply.{mappings, apply}
 use Rattle.outcome.specs.FullTable.{fullTable}
 use Rattle.outcome.specs.Outcome.{admitted}
 use Rattle.outcome.proofs.Accepted.{admitted-sound}
 use Rattle.operation.specs.declared.Shortening.{Shortening}
 use Rattle.operation.specs.declared.Shortening.the-variants.{Upstream}
 use Rattle.operation.specs.Operations.{operationOf}
-use Rattle.operation.proofs.Lawful.{names-of}
 use Rattle.prefix.specs.Prefix.{Scope}
 use Rattle.prefix.proofs.Nested.{outermost-prefix}
 use Rattle.chains.specs.Chains.{room}
 use Rattle.adding.specs.Adds.{Table, table}
-use Rattle.adding.specs.Settles.{ownWords}
 use Rattle.fields.specs.Fields.{namePlace}
 use Rattle.gathering.specs.Gathers.{span, gathered}
 use Rattle.gathering.proofs.Mapped.{selected-canonical, module-tabled}
-use Rattle.gathering.proofs.Chosen.{uses-final}
 use Rattle.tables.specs.Tables.{tableOf}
 use Rattle.tables.proofs.Owner.{owner-has}
-use Rattle.rewriting.specs.Imports.{importsBytes}
 use Rattle.modules.specs.Modules.{Made, moduleMade}
 use Rattle.modules.proofs.Inner.{name-there, name-small}
 use Rattle.modules.proofs.States.{found, Ready, settled-ready, After, same, other, scopeAt, Stands, Applied}
@@ -160,15 +153,3 @@ module _ (op : Shortening) (card root : Bytes) (words : ℕ) (sound : admitted (
       (module-tabled (scopeAt op card root [] 0) 0 (tree card) (here .starts) (here .fits) (here .canonical) 48 (r .is-card .shallow) (r .small) (Prefix card
       root)
       (here .prefixed) (here .prefix-is) ws))
-
-  -- and the uses that a table of its own brings, if it is not full
-  pub own-uses : (t : Table) → Own card root op t → t .count ≤ room (t .words)
-      → importsBytes (scopeAt op card root [] 0) (ownWords t) (t .count) ≡ encodeAll (imports (operationOf op) (tree card) (Prefix card root))
-  unfolding importsBytes imports pathsToRemove
-  own-uses t ready r =
-      let reads = admitted-reads op card root words sound bc br in
-      let l = length-take-le (4 * t .count) (t .words) (omega arith) in
-      let o : room (ownWords t) ≡ t .count = omega arith in
-      rw (le-ltb 65536 (length card) (reads .small), le-ltb (room (ownWords t)) (t .count) (omega arith))
-      (sym (uses-final (scopeAt op card root [] 0) (table (t .count) (ownWords t)) Mapped (ready .tabled r)
-      (mappings-good (operationOf op) (names-of op) (tree card) (Prefix card root)) (omega arith) (Prefix card root) (here .prefixed) (here .prefix-is)))

@@ -1,17 +1,16 @@
 -- The uses that a module's mapping gives are no larger than what the module's paths are charged. Assumes nothing.
-use mathlib.Core.Path.{_≡_, refl, sym, _∙_}
+use mathlib.Core.Path.{_≡_, refl}
 use mathlib.Core.List.{List, [], _∷_, _++_}
-use mathlib.Core.Bool.{true, false, cond, false≢true, or-true, or-false}
-use mathlib.Core.Option.{none, some, Option·some-injective}
-use Prim.Native.Nat.{ℕ, suc, _+_, _≤_, _-_}
+use mathlib.Core.Bool.{true, false, cond, false≢true, or-true}
+use mathlib.Core.Option.{none}
+use Prim.Native.Nat.{ℕ, _+_, _≤_, _-_}
 use native.Mathlib.Omega.{arith}
 use lib.ListN.{length, length-take}
 use lib.Dec.{eqb}
-use borrow.Author.Tests.{ne-eqb}
 use Rattle.wire.specs.Numbers.{sameBytes}
 use Rattle.wire.proofs.Numbers.{sameBytes-true}
 use Rattle.records.specs.Record.{Record, node, nil, _▸_, nth}
-use Rattle.rast.specs.Path.{Name, Path, MSel, Self, Selected, selected, whether, «dafny_runtime»}
+use Rattle.rast.specs.Path.{Name, Path, MSel, Self, Selected, selected, whether}
 use Rattle.rast.specs.Final.{isAmong}
 use Rattle.rast.specs.Operation.{upstream}
 use Rattle.rast.proofs.Chosen.{upstream-chooses}
@@ -31,19 +30,19 @@ use Rattle.size.proofs.Visited.{Adds, Single, VisitMod-adds}
 
 module _ (S : Path) where
   -- the size of a name's use from a path; SelfPath gives none
-  unfoldable useSize : Name → Path → ℕ
+  unfoldable pub useSize : Name → Path → ℕ
   useSize n p = cond (equal upstream p S) 0 (19 + size (MSel p n))
 
-  unfoldable basesSize : Name → List Path → ℕ
+  unfoldable pub basesSize : Name → List Path → ℕ
   basesSize n [] = 0
   basesSize n (p ∷ ps) = useSize n p + basesSize n ps
 
   -- as much as the uses of all the paths of a mapping would take
-  unfoldable usesSize : Provenance → ℕ
+  unfoldable pub usesSize : Provenance → ℕ
   usesSize [] = 0
   usesSize (e ∷ es) = basesSize (e .name) (e .held) + usesSize es
 
-  abbrev mappingSize : Mapping → ℕ
+  abbrev pub mappingSize : Mapping → ℕ
   mappingSize m = usesSize (m .provenance)
 
   bases-last : (n : Name) (p : Path) (ps : List Path) → basesSize n (ps ++ (p ∷ [])) ≡ basesSize n ps + useSize n p
@@ -61,7 +60,7 @@ module _ (S : Path) where
       (λ t. let i : basesSize k ps ≤ basesSize k (e .held) + x = rw t at h in rw (t, sameBytes-true (e .name) k t) (omega arith))
       (λ t. let i = set-size k ps x es (rw t at h) in rw t (omega arith))
 
-  add-size : (k : Name) (p : Path) (m : Mapping) → mappingSize (Add upstream m k p) ≤ mappingSize m + useSize k p
+  pub add-size : (k : Name) (p : Path) (m : Mapping) → mappingSize (Add upstream m k p) ≤ mappingSize m + useSize k p
   unfolding Add basesSize
   add-size k p m =
       by-option (get upstream k (m .provenance))
@@ -69,7 +68,7 @@ module _ (S : Path) where
       (λ ps g. rw g (set-size k (include upstream p ps) (useSize k p) (m .provenance)
       (rw g (one-of (λ qs. basesSize k qs ≤ basesSize k ps + useSize k p) (_among_ upstream p ps) (omega arith) (let i = bases-last k p ps in omega arith)))))
 
-  use-most : (n : Name) (p : Path) → useSize n p ≤ 19 + size (MSel p n)
+  pub use-most : (n : Name) (p : Path) → useSize n p ≤ 19 + size (MSel p n)
   unfolding useSize
   use-most n p = one-of (λ x. x ≤ 19 + size (MSel p n)) (equal upstream p S) (omega arith) (omega arith)
 
@@ -150,11 +149,14 @@ module _ (S : Path) where
       (by-test (equal upstream q S) (λ s. rw s (omega arith))
       (λ s. let i = among-size n q (e .held) (upstream-chooses .inside S (e .held) q c) s in rw s (omega arith))))
 
--- the uses put ahead of a module are no larger than what its paths are charged
-pub imports-size : (m : Record) (h : ModFields m) (S : Path) → sizeAll (imports upstream m S) ≤ chargeAll (h .body)
+-- the uses put ahead of a module are no larger than the uses of all the paths of its mapping would be
+pub imports-most : (m : Record) (S : Path) → sizeAll (imports upstream m S) ≤ mappingSize S (mappings upstream m S)
 unfolding imports pathsToRemove
-imports-size m h S =
+imports-most m S =
     let good = mappings-good upstream upstream-names m S in
     let a = uses-size S (mappings upstream m S .provenance) (good .apart) in
-    let b = mapping-size S m h in
     rw (← good .named) (omega arith)
+
+-- nor than what its paths are charged
+pub imports-size : (m : Record) (h : ModFields m) (S : Path) → sizeAll (imports upstream m S) ≤ chargeAll (h .body)
+imports-size m h S = let a = imports-most m S in let b = mapping-size S m h in omega arith

@@ -59,13 +59,6 @@ fn say_answer(a: Answer, out: &[u8], work: &[u32]) {
     }
 }
 
-fn answer(card: &[u8], root: &[u8], out: &mut [u8], work: &mut [u32]) {
-    memory::fill(out);
-    memory::fill_words(work);
-    let a = shortening::shorten(card, root, out, work);
-    say_answer(a, out, work);
-}
-
 fn least(a: usize, b: usize) -> usize
     ensures { λ r. ⌜ r ≤ b ⌝ }
 {
@@ -73,6 +66,33 @@ fn least(a: usize, b: usize) -> usize
         return a;
     }
     b
+}
+
+// The call with work words of its own.
+fn alone(card: &[u8], root: &[u8], out: &mut [u8]) -> Answer {
+    memory::fill(out);
+    shortening::shorten_alone(card, root, out)
+}
+
+// Whether it answers the same and leaves as long an out buffer, at the front of own, the same.
+fn is_same_alone(card: &[u8], root: &[u8], a: Answer, out: &[u8], own: &mut [u8]) -> bool {
+    let n = least(out.len(), own.len());
+    let b = alone(card, root, &mut own[..n]);
+    answers::packed(a) == answers::packed(b) && wire::same(out, wire::part(own, 0, n))
+}
+
+fn answer(card: &[u8], root: &[u8], out: &mut [u8], work: &mut [u32]) {
+    memory::fill(out);
+    memory::fill_words(work);
+    let a = shortening::shorten(card, root, out, work);
+    if 2048 <= work.len() {
+        let mut own = test_input::room();
+        if !is_same_alone(card, root, a, out, &mut own) {
+            say(b"broken promise: the call with work words of its own answers otherwise\n");
+            return;
+        }
+    }
+    say_answer(a, out, work);
 }
 
 // With so much lent, or all there is.

@@ -142,7 +142,7 @@ fn agree<C: Borrow<Case>>(what: &str, cases: impl IntoIterator<Item = C>, buffer
     differ == 0
 }
 
-/// Random cards, most of them lent a little more than their output takes, others too little.
+/// Random cards, some lent a little more than their output takes, some much more, some too little.
 fn random(count: usize, seed: u64) -> impl Iterator<Item = Case> {
     let mut room = vec![0; MOST_CARD * MOST_TIMES];
     Cards::new(seed).take(count).enumerate().map(move |(i, c)| {
@@ -152,6 +152,9 @@ fn random(count: usize, seed: u64) -> impl Iterator<Item = Case> {
             2 => length / 2,
             3 => 0,
             4..=8 => length,
+            9..=11 => (length * 2).min(MOST_CARD * MOST_TIMES),
+            12 => c.card.len().min(MOST_CARD) * MOST_TIMES,
+            13 | 14 => length.max(65536),
             more => length + more,
         };
         Case { root: c.root, card: c.card, out, words: c.words, due: None }

@@ -1,10 +1,11 @@
 -- Words laid over others, from the first on. Assumes nothing.
 use mathlib.Core.Path.{_≡_, refl, ap, _∙_}
 use mathlib.Core.List.{List, [], _∷_, _++_, append-nil}
-use Prim.Native.Nat.{ℕ, zero, suc, _+_, _<_, _≤_}
+use Prim.Native.Nat.{ℕ, zero, suc, _+_, _<_, _≤_, min}
 use native.Mathlib.Omega.{arith}
 use lib.ListN.{length, take, drop, getD, set, length-set, drop-of-length-le}
-use lib.Seq.{length-take-le, take-at, take-all}
+use lib.Seq.{take-at, take-all}
+use Rattle.work.specs.Copies.{over}
 
 -- the first i words of w are those of z, the others as they were in v
 pub record Copied (z v w : List ℕ) (i : ℕ) : Type 0 where
@@ -19,6 +20,25 @@ set-next i [] v g h = absurd (omega arith)
 set-next i (a ∷ z) [] g h = absurd (omega arith)
 set-next zero (a ∷ z) (x ∷ v) g h = refl
 set-next (suc i) (a ∷ z) (x ∷ v) g h = ap (λ (w : List ℕ). a ∷ w) (set-next i z v (omega arith) (omega arith))
+
+over-all : (i : ℕ) (z v : List ℕ) → i ≤ length z → i ≤ length v → min (length z) (length v) ≤ i → take i z ++ drop i v ≡ over z v
+over-all zero [] [] g k h = refl
+over-all zero [] (x ∷ v) g k h = refl
+over-all zero (a ∷ z) [] g k h = refl
+over-all zero (a ∷ z) (x ∷ v) g k h = absurd (omega arith)
+over-all (suc i) [] v g k h = absurd (omega arith)
+over-all (suc i) (a ∷ z) [] g k h = absurd (omega arith)
+over-all (suc i) (a ∷ z) (x ∷ v) g k h = ap (λ (w : List ℕ). a ∷ w) (over-all i z v (omega arith) (omega arith) (omega arith))
+
+-- over as many words, or over the first of more
+module _ (z v : List ℕ) where
+  pub over-whole : length z ≡ length v → over z v ≡ z
+  over-whole e =
+      ap (λ (u : List ℕ). take (length v) z ++ u) (drop-of-length-le v {i = length z} (omega arith)) ∙ append-nil (take (length v) z)
+      ∙ take-all (length v) z (omega arith)
+
+  pub over-first : length z ≤ length v → take (length z) (over z v) ≡ z
+  over-first h = rw (take-all (length v) z h) (take-at z (drop (length z) v) (length z) refl)
 
 pub copied-none : (z v : List ℕ) → Copied z v v 0
 copied-none z v = record { long = refl; inside = omega arith; given = omega arith; is = refl }
@@ -37,14 +57,9 @@ module _ (z v w : List ℕ) (i : ℕ) (c : Copied z v w i) where
             ∙ ap (λ (n : ℕ). take n z ++ drop n v) (let e : suc i ≡ i + 1 = omega arith in e);
       }
 
-  -- all are laid, over as many words, or over the first of more
-  pub copied-over : length v ≡ length z → length w ≤ i → w ≡ z
-  copied-over e h =
-      let l = c .long in
-      c .is ∙ ap (λ (u : List ℕ). take i z ++ u) (drop-of-length-le v {i = i} (omega arith)) ∙ append-nil (take i z) ∙ take-all i z (omega arith)
-
-  pub copied-all : length z ≤ i → take (length z) w ≡ z
+  -- as far as both reach
+  pub copied-all : min (length z) (length v) ≤ i → w ≡ over z v
   copied-all h =
-      let g = c .given in
-      let e : length (take i z) ≡ length z = length-take-le i z (c .given) ∙ (let f : i ≡ length z = omega arith in f) in
-      ap (take (length z)) (c .is) ∙ take-at (take i z) (drop i v) (length z) e ∙ take-all i z h
+      let l = c .long in
+      let n = c .inside in
+      c .is ∙ over-all i z v (c .given) (omega arith) h

@@ -1,7 +1,7 @@
 // The lent work words, of 32 bits.
 ghost use mathlib.Core.Path.{_≡_};
-ghost use Prim.Native.Nat.{_≤_};
-ghost use lib.ListN.{length, take, replicate};
+ghost use lib.ListN.{length, replicate};
+ghost use Rattle.work.specs.Copies.{over};
 
 // All of them zero.
 pub fn clear(work: &mut [u32])
@@ -14,28 +14,17 @@ pub fn clear(work: &mut [u32])
     }
 }
 
-// A few words, put aside: they may be used for something else and put back.
-pub fn saved(words: &[u32]) -> [u32; 256]
-    requires { ⌜ length (now words) ≤ 256 ⌝ }
-    ensures { λ r. ⌜ take (length (now (words .entry))) r ≡ now (words .entry) ⌝ }
+// Words laid over others from the first on, as far as both reach.
+pub fn copy(from: &[u32], to: &mut [u32])
+    ensures { λ r. ⌜ now (to .exit) ≡ over (now (from .entry)) (now (to .entry)) ⌝ }
 {
-    let mut aside: [u32; 256] = [0; 256];
-    let mut n = 0;
-    while n < words.len() {
-        aside[n] = words[n];
-        n += 1;
+    let mut end = to.len();
+    if from.len() < end {
+        end = from.len();
     }
-    aside
-}
-
-// As many words as were put aside are those again.
-pub fn put_back(words: &mut [u32], aside: &[u32])
-    requires { ⌜ length (now words) ≡ length (now aside) ⌝ }
-    ensures { λ r. ⌜ now (words .exit) ≡ now (aside .entry) ⌝ }
-{
     let mut n = 0;
-    while n < words.len() {
-        words[n] = aside[n];
+    while n < end {
+        to[n] = from[n];
         n += 1;
     }
 }

@@ -6,7 +6,7 @@ use mathlib.Core.List.{List, [], _++_, append-nil}
 use Prim.Native.Nat.{ℕ, _+_, _-_, _*_, _/_, _≤_, min}
 use native.Mathlib.Nat.{zero-add}
 use native.Mathlib.Omega.{arith}
-use lib.ListN.{length, take, drop, length-append, length-take, length-drop, drop-of-length-le, take-append-drop}
+use lib.ListN.{length, take, drop, length-append, length-take, length-drop, replicate, length-replicate, drop-of-length-le, take-append-drop}
 use lib.Seq.{take-all, take-at, length-take-le}
 use lib.Dec.{eqb, leb}
 use borrow.Author.Tests.{eq-eqb, ne-eqb, leb-true, leb-false}
@@ -20,13 +20,15 @@ use Rattle.adding.specs.Adds.{Table, table}
 use Rattle.adding.specs.Settles.{ownWords}
 use Rattle.gathering.specs.Gathers.{Span, span, spansIn}
 use Rattle.tables.specs.Tables.{tableOf, hasRoom, isSmall, lastWords}
+use Rattle.work.specs.Copies.{over}
+use Rattle.work.proofs.Copied.{over-whole, over-first}
 use Rattle.laying.specs.Lays.{lay, Laid, headBytes}
 use Rattle.laying.proofs.Laws.{lay-part, lay-behind, laid-record}
 use Rattle.rewriting.specs.Imports.{importsBytes}
 use Rattle.rewriting.specs.Rewrites.{declaration}
 use Rattle.rewriting.proofs.Lengths.{rest-inside}
 use Rattle.modules.specs.Modules.{Made, made, bodyIn, aheadIn, nestedMade, savedMade, besideMade, innerMade, eachMade, declarationMade, bodyMade, modMade}
-use Rattle.writing.specs.Wrote.{Wrote, Few}
+use Rattle.writing.specs.Wrote.{Wrote}
 
 -- the part of out that is lent from a place on, and out when it is back
 abbrev pub lent : Bytes → ℕ → Bytes
@@ -98,32 +100,44 @@ put-back words₀ words k h =
     ∙ ap (λ (x : List ℕ). x ++ drop k words₀) (take-at (take k words₀) words k (length-take-le k words₀ h)) ∙ take-append-drop k words₀
 
 -- the last words, which are put aside
-module _ (n : ℕ) (words₀ : List ℕ) (few : Few n words₀) where
+module _ (n pairs : ℕ) (words₀ : List ℕ) (small : isSmall (table pairs words₀) n ≡ true) where
+  -- what so many bytes collect takes at most 256 words, and there are as many
+  pub small-fits : (n / 18 ≤ 64) × (4 * (n / 18) ≤ length words₀)
+  unfolding isSmall
+  small-fits =
+      let g = and-eq-true-iff (leb (n / 18) 64) (leb (4 * (n / 18)) (length words₀)) .0 small in
+      (leb-true _ _ (g .0), leb-true _ _ (g .1))
+
   abbrev From : ℕ
   From = length words₀ - 4 * (n / 18)
 
-  module _ (aside : List ℕ) (s : take (length (lent words₀ From)) aside ≡ lent words₀ From) where
-    last-long : length (lent words₀ From) ≡ 4 * (n / 18)
-    last-long = let i = few .there in simp (length-take, length-drop) (omega arith)
+  last-long : length (lent words₀ From) ≡ 4 * (n / 18)
+  last-long = let i = small-fits .1 in simp (length-take, length-drop) (omega arith)
 
+  module _ (aside : List ℕ) (s : aside ≡ over (lent words₀ From) (replicate 256 0)) where
     aside-is : take (4 * (n / 18)) aside ≡ lent words₀ From
-    aside-is = ap (λ (m : ℕ). take m aside) (sym last-long) ∙ s
+    aside-is =
+        let a = last-long in
+        let i = small-fits .0 in
+        let r = length-replicate {A = ℕ} 256 0 in
+        ap₂ take (sym a) s ∙ over-first (lent words₀ From) (replicate 256 0) (omega arith)
 
     pub aside-long : 4 * (n / 18) ≡ length (take (4 * (n / 18)) aside)
     aside-long = sym (ap length aside-is ∙ last-long)
 
     -- there are as many again to put them back to
-    pub last-again : (words : List ℕ) → length words ≡ length (lent words₀ From)
-        → length (lent (back words₀ From words) From) ≡ length (take (4 * (n / 18)) aside)
+    last-again : (words : List ℕ) → length words ≡ length (lent words₀ From)
+        → over (take (4 * (n / 18)) aside) (lent (back words₀ From words) From) ≡ lent words₀ From
     last-again words e =
-        let i = few .there in
+        let i = small-fits .1 in
         let a = last-long in
         let b : length (back words₀ From words) ≡ length (take From words₀) + length words =
         ap length (back-end words₀ From words) ∙ length-append (take From words₀) words in
         let c = length-take-le From words₀ (omega arith) in
         let d = length-drop From (back words₀ From words) in
         let z : length (drop From (back words₀ From words)) ≡ 4 * (n / 18) = omega arith in
-        ap length (lent-whole (back words₀ From words) From) ∙ z ∙ aside-long
+        over-whole (take (4 * (n / 18)) aside) (lent (back words₀ From words) From)
+        (sym aside-long ∙ sym (ap length (lent-whole (back words₀ From words) From) ∙ z)) ∙ aside-is
 
 -- a nested module: it is written over the part of out behind its declaration's head, then the head
 module _ (f : Span → ℕ → Table → Made) (at from to owner₀ pairs₀ : ℕ) (words₀ : List ℕ) (out : Bytes) (q : ℕ) (e : q ≡ min 6 (length out)) (part : Bytes)
@@ -146,20 +160,22 @@ module _ (f : Span → ℕ → Table → Made) (at from to owner₀ pairs₀ : �
   lent-gives v v′ x w = rw x at w
 
   -- with the last words, put aside and put back
-  module _ (few : Few (to - from) words₀) where
+  module _ (small : isSmall (table pairs₀ words₀) (to - from) ≡ true) where
     abbrev Last : ℕ
-    Last = From (to - from) words₀ few
+    Last = From (to - from) pairs₀ words₀ small
 
-    pub saved-gives : (aside : List ℕ) → take (length (lent words₀ Last)) aside ≡ lent words₀ Last
+    pub saved-gives : (aside : List ℕ) → aside ≡ over (lent words₀ Last) (replicate 256 0)
         → Wrote (lent out q) part words len full owner pairs (f (span (from + 6) to) 65537 (table 0 (lent words₀ Last)))
-        → (again : List ℕ) → again ≡ take (4 * ((to - from) / 18)) aside
+        → length words ≡ length (lent words₀ Last)
+        → (again : List ℕ) → again ≡ over (take (4 * ((to - from) / 18)) aside) (lent (back words₀ Last words) Last)
         → Wrote out after (back (back words₀ Last words) Last again) (len + 6) full at pairs₀ (savedMade at (table pairs₀ words₀)
         (f (span (from + 6) to) 65537 (table 0 (lastWords (table pairs₀ words₀) (to - from)))))
     unfolding lastWords
-    saved-gives aside s w again g =
+    saved-gives aside s w k again g =
         let v = lent-gives (lent words₀ Last) (drop Last words₀) (lent-whole words₀ Last) w in
         module-gives _ v (back (back words₀ Last words) Last again) at pairs₀ at (table pairs₀ words₀) refl
-        (ap (table pairs₀) (ap (back (back words₀ Last words) Last) (g ∙ aside-is (to - from) words₀ few aside s) ∙ put-back words₀ words Last (omega arith)))
+        (ap (table pairs₀) (ap (back (back words₀ Last words) Last) (g ∙ last-again (to - from) pairs₀ words₀ small aside s words k)
+        ∙ put-back words₀ words Last (omega arith)))
 
   module _ (small test : Bool) (x : small ≡ (eqb owner₀ at && isSmall (table pairs₀ words₀) (to - from)))
       (y : test ≡ (eqb owner₀ at && hasRoom (table pairs₀ words₀) (to - from))) (no : small ≡ false) where
@@ -189,12 +205,8 @@ saved-keeps at held m w = ap (λ (t : Table). length (t .words)) (w .held-is)
 -- a small one
 module _ (f : Span → ℕ → Table → Made) (at from to owner₀ pairs₀ : ℕ) (words₀ : List ℕ) (small : Bool)
     (x : small ≡ (eqb owner₀ at && isSmall (table pairs₀ words₀) (to - from))) (t : small ≡ true) where
-  pub small-few : Few (to - from) words₀
-  unfolding isSmall
-  small-few =
-      let h = and-eq-true-iff (eqb owner₀ at) (isSmall (table pairs₀ words₀) (to - from)) .0 (sym x ∙ t) in
-      let g = and-eq-true-iff (leb ((to - from) / 18) 64) (leb (4 * ((to - from) / 18)) (length words₀)) .0 (h .1) in
-      record { few = leb-true _ _ (g .0); there = leb-true _ _ (g .1) }
+  pub small-known : isSmall (table pairs₀ words₀) (to - from) ≡ true
+  small-known = and-eq-true-iff (eqb owner₀ at) (isSmall (table pairs₀ words₀) (to - from)) .0 (sym x ∙ t) .1
 
   pub small-gives : (out after : Bytes) (words : List ℕ) (len full owner pairs : ℕ)
       → Wrote out after words len full owner pairs (savedMade at (table pairs₀ words₀)

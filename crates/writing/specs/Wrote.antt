@@ -1,7 +1,7 @@
 -- What a call of the ring leaves: the piece that it answers is what the definition makes. Assumes nothing: these are definitions.
 use mathlib.Core.Path.{_≡_}
 use mathlib.Core.List.{List, []}
-use Prim.Native.Nat.{ℕ, _+_, _-_, _*_, _/_, _≤_}
+use Prim.Native.Nat.{ℕ, _+_, _-_, _≤_}
 use lib.ListN.{length as long}
 use Rattle.wire.specs.Numbers.{Bytes, between}
 use Rattle.records.specs.Record.{contentOf}
@@ -26,11 +26,6 @@ pub record Within (from to : ℕ) (card : Bytes) (chain : List ℕ) (left : ℕ)
   pub inside : to ≤ long card
   pub small : long card ≤ 65536
   pub shallow : long chain + left ≤ 48
-
--- what so many bytes collect takes at most 256 words, and there are as many
-pub record Few (n : ℕ) (words : List ℕ) : Type 0 where
-  pub few : n / 18 ≤ 64
-  pub there : 4 * (n / 18) ≤ long words
 
 -- what is made of the module at a place, which has this chain and is at most left deep, of its body and of its declarations, where the words hold its table
 module _ (op : Shortening) (card root : Bytes) (left : ℕ) (chain : List ℕ) (at : ℕ) where

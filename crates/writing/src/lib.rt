@@ -4,13 +4,15 @@
 use operation::Shortening;
 use tables::Held;
 ghost use mathlib.Core.Path.{_≡_};
+ghost use mathlib.Core.Bool.{true};
 ghost use mathlib.Core.List.{[], _∷_, _++_};
 ghost use Prim.Native.Nat.{_+_, _-_, _<_, _≤_};
 ghost use lib.ListN.{length, take};
 ghost use Rattle.adding.specs.Adds.{table};
 ghost use Rattle.gathering.specs.Gathers.{span};
+ghost use Rattle.tables.specs.Tables.{isSmall};
 ghost use Rattle.modules.specs.Modules.{firstFull, moduleMade, cardMade};
-ghost use Rattle.writing.specs.Wrote.{Wrote, Within, Few, savedAt, innerAt, declarationAt, declarationsAt, bodyAt, modAt};
+ghost use Rattle.writing.specs.Wrote.{Wrote, Within, savedAt, innerAt, declarationAt, declarationsAt, bodyAt, modAt};
 
 // How long what was made is; the place after that of the first module whose table is full, 0 where none is; whose table the words hold, and its pairs.
 pub struct Piece {
@@ -279,14 +281,16 @@ fn write_saved(
     work: &mut [u32],
     pairs: usize,
 ) -> Piece
-    requires { ⌜ Within (from + 6) to (now card) (now chain) left × (left ≤ 48) × Few (to - from) (now work) ⌝ }
+    requires { ⌜ Within (from + 6) to (now card) (now chain) left × (left ≤ 48)
+        × (isSmall (table pairs (now work)) (to - from) ≡ true) ⌝ }
     ensures { λ r. ⌜ Wrote (now (out .entry)) (now (out .exit)) (now (work .exit)) (r .length) (r .full) (r .owner) (r .pairs)
         (savedAt op (now (card .entry)) (now (root .entry)) left (now (chain .entry)) at (span from to) pairs (now (work .entry))) ⌝ }
 {
     let q = laying::least(6, out.len());
     let n = 4 * ((to - from) / 18);
     let k = work.len() - n;
-    let aside = work::saved(&work[k..]);
+    let mut aside: [u32; 256] = [0; 256];
+    work::copy(&work[k..], &mut aside);
     let m = write_module(
         op,
         card,
@@ -300,7 +304,7 @@ fn write_saved(
         65537,
         0,
     );
-    work::put_back(&mut work[k..], &aside[..n]);
+    work::copy(&aside[..n], &mut work[k..]);
     laying::lay_head(m.length + 2, 0x62, out, 0);
     Piece {
         length: m.length + 6,

@@ -1,11 +1,11 @@
 -- `work::clear` meets its contract: word by word, by the laws of Copied. Assumes nothing.
-use mathlib.Core.Path.{_≡_, sym}
+use mathlib.Core.Path.{_≡_, _∙_}
 use mathlib.Core.List.{List}
 use Prim.Native.Nat.{ℕ, _+_, _-_, _<_, _≤_}
 use native.Mathlib.Omega.{arith}
 use lib.ListN.{length, set, replicate, length-replicate, getD-replicate}
 use borrow.Author.Needs.{needs}
-use Rattle.work.proofs.Copied.{Copied, copied-none, copied-next, copied-over}
+use Rattle.work.proofs.Copied.{Copied, copied-none, copied-next, copied-all, over-whole}
 use Rattle.work.proofs.clear.Statement.{statement}
 use Rattle.work.proofs.clear.Tie as tie
 
@@ -20,7 +20,10 @@ cleared-next v w i c h =
     rw (getD-replicate {A = ℕ} (length v) i 0 0 (omega arith)) at (copied-next (replicate (length v) 0) v w i c (omega arith) h)
 
 cleared-all : (v w : List ℕ) (i : ℕ) → Cleared v w i → length w ≤ i → w ≡ replicate (length v) 0
-cleared-all v w i c h = copied-over (replicate (length v) 0) v w i c (sym (length-replicate {A = ℕ} (length v) 0)) h
+cleared-all v w i c h =
+    let l = c .long in
+    let k = length-replicate {A = ℕ} (length v) 0 in
+    copied-all (replicate (length v) 0) v w i c (omega arith) ∙ over-whole (replicate (length v) 0) v k
 
 abbrev Inv-loop : tie.InvT-loop
 Inv-loop work₀ i₀ work i = Cleared work₀ work i

@@ -10,7 +10,7 @@ use Rattle.prefix.specs.Prefix.{scope}
 use Rattle.adding.specs.Adds.{table}
 use Rattle.modules.specs.Modules.{made, declarationMade, moduleMade}
 use Rattle.modules.proofs.Bound.{declaration-bound, declarations-bound, body-bound, imports-bound}
-use Rattle.writing.proofs.Pieces.{aside-long, last-again, saved-gives, saved-keeps, beside-gives, alone-gives, small-few, small-gives}
+use Rattle.writing.proofs.Pieces.{aside-long, saved-gives, saved-keeps, beside-gives, alone-gives, small-fits, small-known, small-gives}
 use Rattle.writing.proofs.Pieces.{inner-gives, other-gives, body-gives, body-inside, mod-all}
 use Rattle.writing.proofs.Going.{wrote-long, Going, going-none, going-long, going-short, going-end, next-fits, going-next}
 use Rattle.writing.proofs.Tests.{module-shallow, module-other, module-full, module-mod, names-fit}
@@ -55,8 +55,7 @@ use Rattle.tables.proofs.is_small_beside.Reads as is-small-beside-reads
 use Rattle.tables.proofs.own_words.Reads as own-words-reads
 use Rattle.tables.proofs.table_of.Reads as table-of-reads
 use Rattle.wire.proofs.part.Reads as part-reads
-use Rattle.work.proofs.put_back.Reads as put-back-reads
-use Rattle.work.proofs.saved.Reads as saved-reads
+use Rattle.work.proofs.copy.Reads as copy-reads
 use Rattle.writing.proofs.extended.Reads as extended-reads
 use Rattle.writing.proofs.first_full.Reads as first-full-reads
 use Rattle.writing.proofs.+write_body+write_declaration+write_declarations+write_inner+write_mod+write_module+write_saved.{statement}
@@ -264,12 +263,10 @@ abbrev write-saved-calls : ℕ → write-saved-lts.Claims
 write-saved-calls t = (
   least-reads.Asked,
   least-reads.Learnt,
-  saved-reads.Asked,
-  saved-reads.Learnt,
+  copy-reads.Asked,
+  copy-reads.Learnt,
   write-module-below t,
   write-module.Post,
-  put-back-reads.Asked,
-  put-back-reads.Learnt,
   lay-head-reads.Asked,
   lay-head-reads.Learnt,
 )
@@ -872,9 +869,9 @@ write-inner-write-saved-requires t c κs =
     let pre = c .before .before .before .before .before .before .before .before .before .before .before .pre in
     let is-small-beside = c .before .before .before .is-small-beside in
     let if1 = c .before .before .if1 in
-    let few = small-few (moduleMade (args .op) (args .card .now) (args .root .now) (args .left) (args .chain .now)) (args .at) (args .from) (args .to)
+    let small = small-known (moduleMade (args .op) (args .card .now) (args .root .now) (args .left) (args .chain .now)) (args .at) (args .from) (args .to)
     (args .owner) (args .pairs) (args .work .now) _ (is-small-beside .ensures) (if1 .taken) in
-    (omega (arith, pre .0), (pre .1 .0, pre .1 .1, few))
+    (omega (arith, pre .0), (pre .1 .0, pre .1 .1, small))
 
 write-inner-same-length : (t : ℕ) → write-inner-lts.Need-same-length (write-inner-calls t) (write-inner-at t) write-inner.Post
 write-inner-same-length t c = search needs
@@ -1391,22 +1388,27 @@ write-saved-mul-n : (t : ℕ) → write-saved-lts.Need-mul-n (write-saved-calls 
 write-saved-mul-n t c = search needs
 
 write-saved-sub-k : (t : ℕ) → write-saved-lts.Need-sub-k (write-saved-calls t) (write-saved-at t) write-saved.Post
-write-saved-sub-k t c = search needs
+write-saved-sub-k t c =
+    let pre = c .before .before .before .before .before .before .pre in
+    omega (arith, small-fits _ _ _ (pre .1 .2) .1)
 
-write-saved-mul-saved : (t : ℕ) → write-saved-lts.Need-mul-saved (write-saved-calls t) (write-saved-at t) write-saved.Post
-write-saved-mul-saved t c = search needs
+write-saved-mul-copy : (t : ℕ) → write-saved-lts.Need-mul-copy (write-saved-calls t) (write-saved-at t) write-saved.Post
+write-saved-mul-copy t c = search needs
 
-write-saved-sub-saved : (t : ℕ) → write-saved-lts.Need-sub-saved (write-saved-calls t) (write-saved-at t) write-saved.Post
-write-saved-sub-saved t c = search needs
+write-saved-sub-copy : (t : ℕ) → write-saved-lts.Need-sub-copy (write-saved-calls t) (write-saved-at t) write-saved.Post
+write-saved-sub-copy t c = search needs
 
-write-saved-part-saved-start : (t : ℕ) → write-saved-lts.Need-part-saved-start (write-saved-calls t) (write-saved-at t) write-saved.Post
-write-saved-part-saved-start t c = search needs
+write-saved-part-copy-start : (t : ℕ) → write-saved-lts.Need-part-copy-start (write-saved-calls t) (write-saved-at t) write-saved.Post
+write-saved-part-copy-start t c = search needs
 
-write-saved-part-saved-end : (t : ℕ) → write-saved-lts.Need-part-saved-end (write-saved-calls t) (write-saved-at t) write-saved.Post
-write-saved-part-saved-end t c = search needs
+write-saved-part-copy-end : (t : ℕ) → write-saved-lts.Need-part-copy-end (write-saved-calls t) (write-saved-at t) write-saved.Post
+write-saved-part-copy-end t c = search needs
 
-write-saved-saved-requires : (t : ℕ) → write-saved-lts.Need-saved-requires (write-saved-calls t) (write-saved-at t) write-saved.Post
-write-saved-saved-requires t c κs = search needs
+write-saved-slice-aggregate-copy : (t : ℕ) → write-saved-lts.Need-slice-aggregate-copy (write-saved-calls t) (write-saved-at t) write-saved.Post
+write-saved-slice-aggregate-copy t c = refl
+
+write-saved-copy-requires : (t : ℕ) → write-saved-lts.Need-copy-requires (write-saved-calls t) (write-saved-at t) write-saved.Post
+write-saved-copy-requires t c κs = search needs
 
 write-saved-add-write-module : (t : ℕ) → write-saved-lts.Need-add-write-module (write-saved-calls t) (write-saved-at t) write-saved.Post
 write-saved-add-write-module t c = search needs
@@ -1435,75 +1437,72 @@ write-saved-part-write-module-end-2 t c = search needs
 write-saved-write-module-requires : (t : ℕ) → write-saved-lts.Need-write-module-requires (write-saved-calls t) (write-saved-at t) write-saved.Post
 write-saved-write-module-requires t c κs = search needs
 
-write-saved-mul-put-back : (t : ℕ) → write-saved-lts.Need-mul-put-back (write-saved-calls t) (write-saved-at t) write-saved.Post
-write-saved-mul-put-back t c =
-    let good = c .before .before .before .before .before .before .before .before .before .before .before .before .before .before .before .before .good in
+write-saved-array-share-prefix-aside : (t : ℕ) → write-saved-lts.Need-array-share-prefix-aside (write-saved-calls t) (write-saved-at t) write-saved.Post
+write-saved-array-share-prefix-aside t c =
+    let pre = c .before .before .before .before .before .before .before .before .before .before .before .before .before .before .before .before .before
+    .before .pre in
+    omega (arith, small-fits _ _ _ (pre .1 .2) .0)
+
+write-saved-slice-aggregate-copy-2 : (t : ℕ) → write-saved-lts.Need-slice-aggregate-copy-2 (write-saved-calls t) (write-saved-at t) write-saved.Post
+write-saved-slice-aggregate-copy-2 t c =
+    let pre = c .before .before .before .before .before .before .before .before .before .before .before .before .before .before .before .before .before
+    .before .before .pre in
+    let copy = c .before .before .before .before .before .before .before .before .before .copy in
+    aside-long _ _ _ (pre .1 .2) _ (copy .ensures)
+
+write-saved-mul-copy-2 : (t : ℕ) → write-saved-lts.Need-mul-copy-2 (write-saved-calls t) (write-saved-at t) write-saved.Post
+write-saved-mul-copy-2 t c =
+    let good = c .before .before .before .before .before .before .before .before .before .before .before .before .before .before .before .before .before
+    .before .before .good in
     omega (arith, good .1 .1 .1 .1 .1 .1 .1 .1 .1 .0 .1)
 
-write-saved-sub-put-back : (t : ℕ) → write-saved-lts.Need-sub-put-back (write-saved-calls t) (write-saved-at t) write-saved.Post
-write-saved-sub-put-back t c = search needs
+write-saved-sub-copy-2 : (t : ℕ) → write-saved-lts.Need-sub-copy-2 (write-saved-calls t) (write-saved-at t) write-saved.Post
+write-saved-sub-copy-2 t c = search needs
 
-write-saved-part-put-back-start : (t : ℕ) → write-saved-lts.Need-part-put-back-start (write-saved-calls t) (write-saved-at t) write-saved.Post
-write-saved-part-put-back-start t c = search needs
+write-saved-part-copy-start-2 : (t : ℕ) → write-saved-lts.Need-part-copy-start-2 (write-saved-calls t) (write-saved-at t) write-saved.Post
+write-saved-part-copy-start-2 t c = search needs
 
-write-saved-part-put-back-end : (t : ℕ) → write-saved-lts.Need-part-put-back-end (write-saved-calls t) (write-saved-at t) write-saved.Post
-write-saved-part-put-back-end t c = search needs
+write-saved-part-copy-end-2 : (t : ℕ) → write-saved-lts.Need-part-copy-end-2 (write-saved-calls t) (write-saved-at t) write-saved.Post
+write-saved-part-copy-end-2 t c = search needs
 
-write-saved-array-share-prefix-aside : (t : ℕ) → write-saved-lts.Need-array-share-prefix-aside (write-saved-calls t) (write-saved-at t) write-saved.Post
-write-saved-array-share-prefix-aside t c = search needs
-
-write-saved-slice-aggregate-put-back : (t : ℕ) → write-saved-lts.Need-slice-aggregate-put-back (write-saved-calls t) (write-saved-at t) write-saved.Post
-write-saved-slice-aggregate-put-back t c =
-    let pre = c .before .before .before .before .before .before .before .before .before .before .before .before .before .before .before .before .before
-    .before .pre in
-    let saved = c .before .before .before .before .before .before .before .before .before .saved in
-    aside-long _ _ (pre .1 .2) _ (saved .ensures)
-
-write-saved-put-back-requires : (t : ℕ) → write-saved-lts.Need-put-back-requires (write-saved-calls t) (write-saved-at t) write-saved.Post
-write-saved-put-back-requires t c κs =
-    let pre = c .before .before .before .before .before .before .before .before .before .before .before .before .before .before .before .before .before
-    .before .pre in
-    let saved = c .before .before .before .before .before .before .before .before .before .saved in
-    let write-module = c .before .before .before .before .before .before .write-module in
-    last-again _ _ (pre .1 .2) _ (saved .ensures) (write-module .last .1 .1 .1 .1 .1 .1 .1 .1 .0)
-    (module-keeps _ _ _ _ _ _ _ _ _ _ _ _ _ _ _ (write-module .ensures))
+write-saved-copy-requires-2 : (t : ℕ) → write-saved-lts.Need-copy-requires-2 (write-saved-calls t) (write-saved-at t) write-saved.Post
+write-saved-copy-requires-2 t c κs = search needs
 
 write-saved-add-lay-head : (t : ℕ) → write-saved-lts.Need-add-lay-head (write-saved-calls t) (write-saved-at t) write-saved.Post
 write-saved-add-lay-head t c =
     let pre = c .before .before .before .before .before .before .before .before .before .before .before .before .before .before .before .before .before
-    .before .before .before .before .before .pre in
+    .before .before .before .before .before .before .before .pre in
     let write-module = c .before .before .before .before .before .before .before .before .before .before .write-module in
     omega (arith, module-fits _ _ _ _ _ _ _ _ _ _ _ _ _ _ _ _ (pre .1 .0) (pre .1 .1) (write-module .ensures))
 
 write-saved-lay-head-requires : (t : ℕ) → write-saved-lts.Need-lay-head-requires (write-saved-calls t) (write-saved-at t) write-saved.Post
 write-saved-lay-head-requires t c κs = search needs
 
-write-saved-add-t18 : (t : ℕ) → write-saved-lts.Need-add-t18 (write-saved-calls t) (write-saved-at t) write-saved.Post
-write-saved-add-t18 t c =
+write-saved-add-t30 : (t : ℕ) → write-saved-lts.Need-add-t30 (write-saved-calls t) (write-saved-at t) write-saved.Post
+write-saved-add-t30 t c =
     let pre = c .before .before .before .before .before .before .before .before .before .before .before .before .before .before .before .before .before
-    .before .before .before .before .before .before .before .before .before .before .pre in
-    let write-module = c .before .before .before .before .before .before .before .before .before .before .before .before .before .before .before .write-module
-    in
+    .before .before .before .before .before .before .before .before .before .before .before .before .pre in
+    let write-module = c .before .before .before .before .before .before .before .before .before .before .before .before .before .before .before
+    .write-module in
     omega (arith, module-fits _ _ _ _ _ _ _ _ _ _ _ _ _ _ _ _ (pre .1 .0) (pre .1 .1) (write-module .ensures))
 
 write-saved-returns : (t : ℕ) → write-saved-lts.Need-returns (write-saved-calls t) (write-saved-at t) write-saved.Post
 write-saved-returns t c =
     let args = c .before .before .before .before .before .before .before .before .before .before .before .before .before .before .before .before .before
-    .before .before .before .before .before .before .before .before .before .before .args in
-    let pre = c .before .before .before .before .before .before .before .before .before .before .before .before .before .before .before .before .before
-    .before .before .before .before .before .before .before .before .before .before .pre in
+    .before .before .before .before .before .before .before .before .before .before .before .before .args in
     let least = c .before .before .before .before .before .before .before .before .before .before .before .before .before .before .before .before .before
-    .before .before .before .before .least in
-    let saved = c .before .before .before .before .before .before .before .before .before .before .before .before .before .before .before .before .before
-    .before .saved in
-    let write-module = c .before .before .before .before .before .before .before .before .before .before .before .before .before .before .before .write-module
-    in
-    let aside = c .before .before .before .before .before .before .before .before .before .aside in
-    let put-back = c .before .before .before .before .before .before .before .before .put-back in
+    .before .before .before .before .before .before .least in
     let lay-head = c .before .before .before .lay-head in
+    let pre = c .before .before .before .before .before .before .before .before .before .before .before .before .before .before .before .before .before
+    .before .before .before .before .before .before .before .before .before .before .before .before .pre in
+    let copy = c .before .before .before .before .before .before .before .before .before .before .before .before .before .before .before .before .before
+    .before .before .copy in
+    let write-module = c .before .before .before .before .before .before .before .before .before .before .before .before .before .before .before
+    .write-module in
+    let copy2 = c .before .before .before .before .before .before .before .before .copy2 in
     saved-gives (moduleMade (args .op) (args .card .now) (args .root .now) (args .left) (args .chain .now)) (args .at) (args .from) (args .to) 0
-    (args .pairs) (args .work .now) (args .out .now) _ (least .ensures) _ _ _ _ _ _ _ (lay-head .ensures) (pre .1 .2) _ (saved .ensures)
-    (write-module .ensures) _ (put-back .ensures)
+    (args .pairs) (args .work .now) (args .out .now) _ (least .ensures) _ _ _ _ _ _ _ (lay-head .ensures) (pre .1 .2) _ (copy .ensures)
+    (write-module .ensures) (module-keeps _ _ _ _ _ _ _ _ _ _ _ _ _ _ _ (write-module .ensures)) _ (copy2 .ensures)
 
 write-saved-same-length : (t : ℕ) → write-saved-lts.Need-same-length (write-saved-calls t) (write-saved-at t) write-saved.Post
 write-saved-same-length t c = wrote-long (write-saved-returns t c)
@@ -1772,12 +1771,10 @@ pub +write-body+write-declaration+write-declarations+write-inner+write-mod+write
     λ t. write-saved-lts.spec (
       least-reads.Asked,
       least-reads.Learnt,
-      saved-reads.Asked,
-      saved-reads.Learnt,
+      copy-reads.Asked,
+      copy-reads.Learnt,
       write-module-below t,
       write-module.Post,
-      put-back-reads.Asked,
-      put-back-reads.Learnt,
       lay-head-reads.Asked,
       lay-head-reads.Learnt,
     )
@@ -1787,11 +1784,12 @@ pub +write-body+write-declaration+write-declarations+write-inner+write-mod+write
     (write-saved-sub-n t)
     (write-saved-mul-n t)
     (write-saved-sub-k t)
-    (write-saved-mul-saved t)
-    (write-saved-sub-saved t)
-    (write-saved-part-saved-start t)
-    (write-saved-part-saved-end t)
-    (write-saved-saved-requires t)
+    (write-saved-mul-copy t)
+    (write-saved-sub-copy t)
+    (write-saved-part-copy-start t)
+    (write-saved-part-copy-end t)
+    (write-saved-slice-aggregate-copy t)
+    (write-saved-copy-requires t)
     (write-saved-add-write-module t)
     (write-saved-sub-write-module t)
     (write-saved-part-write-module-start t)
@@ -1801,16 +1799,16 @@ pub +write-body+write-declaration+write-declarations+write-inner+write-mod+write
     (write-saved-part-write-module-start-2 t)
     (write-saved-part-write-module-end-2 t)
     (write-saved-write-module-requires t)
-    (write-saved-mul-put-back t)
-    (write-saved-sub-put-back t)
-    (write-saved-part-put-back-start t)
-    (write-saved-part-put-back-end t)
     (write-saved-array-share-prefix-aside t)
-    (write-saved-slice-aggregate-put-back t)
-    (write-saved-put-back-requires t)
+    (write-saved-slice-aggregate-copy-2 t)
+    (write-saved-mul-copy-2 t)
+    (write-saved-sub-copy-2 t)
+    (write-saved-part-copy-start-2 t)
+    (write-saved-part-copy-end-2 t)
+    (write-saved-copy-requires-2 t)
     (write-saved-add-lay-head t)
     (write-saved-lay-head-requires t)
-    (write-saved-add-t18 t)
+    (write-saved-add-t30 t)
     (write-saved-same-length t)
     (write-saved-same-length-2 t)
     (write-saved-returns t)

@@ -1,7 +1,7 @@
 -- Pairs put again where they stand, one after the other. Assumes nothing.
 use mathlib.Core.Path.{_≡_, refl, sym, ap, _∙_}
 use mathlib.Core.List.{List}
-use Prim.Native.Nat.{ℕ, suc, _+_, _-_, _*_, _<_, _≤_}
+use Prim.Native.Nat.{ℕ, suc, _+_, _-_, _*_, _%_, _<_, _≤_}
 use native.Mathlib.Omega.{arith}
 use native.Mathlib.Numerals.{add-one}
 use lib.ListN.{length, take, drop, getD}
@@ -17,7 +17,7 @@ use Rattle.adding.proofs.Puts.{put-length}
 module _ (op : Shortening) (card : Bytes) where
   -- one pair, by its name's place and length
   module _ (words : List ℕ) (i at len : ℕ) (a : at ≡ getD words (4 * i) 0) (l : len ≡ getD words (4 * i + 1) 0) (name : Bytes)
-      (p : name ≡ take len (drop at card)) (b : ℕ) (f : b ≡ bucketOf op words name) where
+      (p : name ≡ take len (drop (at % 65536) card)) (b : ℕ) (f : b ≡ bucketOf op words name) where
     pub again-inside : i < room words → (i < room words) × (b < room words)
     again-inside h = (h, rw f (bucket-inside op words name (omega arith)))
 

@@ -1,20 +1,18 @@
 -- THE CHAIN: in a table whose chains are whole, seeking finds the newest pair that a test holds of. Assumes nothing.
 use mathlib.Core.Path.{_≡_, refl, sym, ap, _∙_}
 use mathlib.Core.List.{List}
-use mathlib.Core.Bool.{Bool, true, false, cond, and-eq-true-iff, true≢false}
-use Prim.Native.Nat.{ℕ, zero, suc, _+_, _-_, _<_, _≤_}
+use mathlib.Core.Bool.{Bool, true, false, cond, and-false, and-eq-true-iff, true≢false}
+use Prim.Native.Nat.{ℕ, zero, suc, _-_, _%_, _<_, _≤_}
 use native.Mathlib.Omega.{arith}
-use lib.Dec.{eqb, ltb}
+use lib.Dec.{eqb}
 use borrow.Author.Tests.{eqb-true, eqb-false, eq-eqb, ne-eqb, le-ltb}
 use Rattle.wire.specs.Numbers.{Bytes}
 use Rattle.rast.proofs.Tests.{by-test}
 use Rattle.operation.specs.Operations.{operationOf}
 use Rattle.prefix.specs.Prefix.{Scope}
-use Rattle.comparing.specs.Compares.{hash}
 use Rattle.comparing.proofs.Operations.{hash-name}
 use Rattle.chains.specs.declared.Want.{Want}
-use Rattle.chains.specs.Chains.{room, nameAt, bucketOf, headOf, nextOf, isWanted, seekFrom, seek}
-use Rattle.chains.proofs.Tests.{seek-enough}
+use Rattle.chains.specs.Chains.{room, nameAt, numberAt, numberOf, bucketOf, headOf, nextOf, hasNamed, isWanted, seekFrom, seek}
 use Rattle.adding.proofs.Tests.{bucket-inside}
 use Rattle.adding.specs.Holds.{latest, bucketAt, isIn, Chained}
 
@@ -74,9 +72,9 @@ module _ (s : Scope) (words : List ℕ) (n : ℕ) (c : Chained s words n) (f : �
           eqb-zero m = ne-eqb (suc m) 0 (λ z. omega arith)
 
 -- a pair that has a name is in the name's bucket
-pub named-bucket : (s : Scope) (words : List ℕ) (name : Bytes) (want : Want) (i : ℕ) → isWanted s words name want i ≡ true
+pub named-bucket : (s : Scope) (words : List ℕ) (name : Bytes) (want : Want) (i : ℕ) → hasNamed s words name want i ≡ true
     → bucketAt s words i ≡ bucketOf (s .op) words name
-unfolding isWanted bucketOf
+unfolding hasNamed bucketOf
 named-bucket s words name want i h =
     let k = and-eq-true-iff _ _ .0 h in
     rw (hash-name (s .op) (nameAt (s .card) words i) name (k .0))
@@ -85,22 +83,40 @@ module _ (s : Scope) (words : List ℕ) (n : ℕ) (r : n ≤ room words) (c : Ch
   abbrev Test : ℕ → Bool
   Test = isWanted s words name want
 
+  abbrev Named : ℕ → Bool
+  Named = hasNamed s words name want
+
+  test-bucket : (i : ℕ) → Test i ≡ true → bucketAt s words i ≡ bucketOf (s .op) words name
+  unfolding isWanted
+  test-bucket i h = named-bucket s words name want i (and-eq-true-iff (eqb (numberAt words i) (numberOf (s .op) name)) (hasNamed s words name want i) .0 h .1)
+
+  -- numbers never separate names that are the same
+  test-named : (i : ℕ) → i < n → Test i ≡ Named i
+  unfolding isWanted hasNamed
+  test-named i l =
+      let own = nameAt (s .card) words i in
+      rw (c .numbers i l)
+      (by-test (operationOf (s .op) .sameName own name)
+      (λ t. rw (eq-eqb (numberOf (s .op) own) (numberOf (s .op) name) (ap (λ (x : ℕ). x % 65536) (hash-name (s .op) own name t))))
+      (λ t. rw t (and-false (eqb (numberOf (s .op) own) (numberOf (s .op) name)))))
+
   -- THE LAW: from the head of a name's bucket, the newest of all
-  pub seek-head : 0 < room words → seek Test words (headOf words (bucketOf (s .op) words name)) ≡ latest Test n
+  pub seek-head : 0 < room words → seek Test words (headOf words (bucketOf (s .op) words name)) ≡ latest Named n
   unfolding seek
   seek-head o =
       let b = bucketOf (s .op) words name in
       let e : headOf words b ≡ latest (isIn s words b) n = c .heads b (bucket-inside (s .op) words name o) in
       let m = latest-most (isIn s words b) n in
       rw (e, le-ltb (room words) (latest (isIn s words b) n) (omega arith))
-      (chain-latest s words n c Test b (named-bucket s words name want) n (latest (isIn s words b) n) (omega arith) (omega arith))
+      (chain-latest s words n c Test b test-bucket n (latest (isIn s words b) n) (omega arith) (omega arith) ∙ latest-same Test Named n test-named)
 
   -- and after a pair that has the name, the newest of those ahead of it
-  pub seek-after : (i : ℕ) → i < n → bucketAt s words i ≡ bucketOf (s .op) words name → seek Test words (nextOf words (suc i)) ≡ latest Test i
+  pub seek-after : (i : ℕ) → i < n → bucketAt s words i ≡ bucketOf (s .op) words name → seek Test words (nextOf words (suc i)) ≡ latest Named i
   unfolding seek
   seek-after i l e =
       let b = bucketOf (s .op) words name in
       let f : nextOf words (suc i) ≡ latest (isIn s words b) i = c .links i l ∙ ap (λ (x : ℕ). latest (isIn s words x) i) e in
       let m = latest-most (isIn s words b) i in
       rw (f, le-ltb (room words) (latest (isIn s words b) i) (omega arith))
-      (chain-latest s words n c Test b (named-bucket s words name want) i (latest (isIn s words b) i) (omega arith) (omega arith))
+      (chain-latest s words n c Test b test-bucket i (latest (isIn s words b) i) (omega arith) (omega arith)
+      ∙ latest-same Test Named i (λ j k. test-named j (omega arith)))

@@ -2,7 +2,7 @@
 use mathlib.Core.Path.{_≡_, refl, sym, ap, ap₂, _∙_}
 use mathlib.Core.List.{List, [], _∷_, _++_}
 use mathlib.Core.Bool.{Bool, cond}
-use Prim.Native.Nat.{ℕ, zero, suc, _+_, _*_, _<_, _≤_}
+use Prim.Native.Nat.{ℕ, zero, suc, _+_, _*_, _/_, _%_, _<_, _≤_}
 use native.Mathlib.Omega.{arith}
 use lib.ListN.{take, drop, getD}
 use lib.Dec.{eqb}
@@ -13,9 +13,9 @@ use Rattle.rast.proofs.Tests.{by-test}
 use Rattle.prefix.specs.Prefix.{Scope}
 use Rattle.comparing.specs.Compares.{placeIn, baseWord, baseAt}
 use Rattle.comparing.proofs.Bases.{word-place}
-use Rattle.chains.specs.Chains.{room, nameAt, wordAt, bucketOf, headOf, nextOf}
+use Rattle.chains.specs.Chains.{room, nameAt, numberAt, numberOf, wordAt, bucketOf, headOf, nextOf}
 use Rattle.pairs.specs.Stored.{Stored, stored}
-use Rattle.adding.specs.Adds.{putPair, nameIn, bucketIn, wordIn}
+use Rattle.adding.specs.Adds.{putPair, nameIn, namedIn, bucketIn, wordIn}
 use Rattle.adding.specs.Holds.{latest, pairAt, pairsFrom, pairsIn, bucketAt, isIn, Chained}
 use Rattle.adding.proofs.Tests.{bucket-inside}
 use Rattle.adding.proofs.Chain.{latest-most, latest-same}
@@ -42,25 +42,39 @@ module _ (s : Scope) (words : List ℕ) (n at len base : ℕ) (small : base < 65
   abbrev Word : ℕ
   Word = wordIn s words at len base
 
+  abbrev First : ℕ
+  First = namedIn s words at len base
+
   abbrev Put : List ℕ
-  Put = putPair words n Bucket at len Word
+  Put = putPair words n Bucket First len Word
+
+  first-kept : (i : ℕ) → i < n → getD Put (4 * i) 0 ≡ getD words (4 * i) 0
+  first-kept i h = let z : 4 * i + 0 ≡ 4 * i = omega arith in rw z at (put-first words n Bucket First len Word i 0 h (omega arith))
 
   name-kept : (i : ℕ) → i < n → nameAt (s .card) Put i ≡ nameAt (s .card) words i
   name-kept i h =
-      ap₂ (λ (x y : ℕ). take y (drop x (s .card)))
-      (at-kept i h) (put-first words n Bucket at len Word i 1 h (omega arith))
-    where
-      at-kept : (i : ℕ) → i < n → getD Put (4 * i) 0 ≡ getD words (4 * i) 0
-      at-kept i h = let z : 4 * i + 0 ≡ 4 * i = omega arith in rw z at (put-first words n Bucket at len Word i 0 h (omega arith))
+      ap₂ (λ (x y : ℕ). take y (drop (x % 65536) (s .card)))
+      (first-kept i h) (put-first words n Bucket First len Word i 1 h (omega arith))
 
   word-kept : (i : ℕ) → i < n → wordAt Put i ≡ wordAt words i
-  word-kept i h = put-first words n Bucket at len Word i 2 h (omega arith)
+  word-kept i h = put-first words n Bucket First len Word i 2 h (omega arith)
 
   name-new : nameAt (s .card) Put n ≡ Name
-  name-new = rw (put-at words n Bucket at len Word r, put-len words n Bucket at len Word r)
+  name-new =
+      rw (put-at words n Bucket First len Word r, put-len words n Bucket First len Word r)
+      (ap (λ (x : ℕ). take len (drop x (s .card))) (low (at % 65536) (numberOf (s .op) Name) (omega arith)))
+    where
+      low : (x y : ℕ) → x < 65536 → (x + 65536 * y) % 65536 ≡ x
+      low x y l = omega arith
+
+  number-new : numberAt Put n ≡ numberOf (s .op) Name
+  number-new = rw (put-at words n Bucket First len Word r) (high (at % 65536) (numberOf (s .op) Name) (omega arith))
+    where
+      high : (x y : ℕ) → x < 65536 → (x + 65536 * y) / 65536 ≡ y
+      high x y l = omega arith
 
   word-new : wordAt Put n ≡ Word
-  word-new = put-base words n Bucket at len Word r
+  word-new = put-base words n Bucket First len Word r
 
   pair-kept : (i : ℕ) → i < n → pairAt s Put i ≡ pairAt s words i
   unfolding pairAt
@@ -84,7 +98,7 @@ module _ (s : Scope) (words : List ℕ) (n at len base : ℕ) (small : base < 65
   -- buckets depend on names and on how many words there are
   bucket-long : (name : Bytes) → bucketOf (s .op) Put name ≡ bucketOf (s .op) words name
   unfolding bucketOf
-  bucket-long name = rw (put-length words n Bucket at len Word)
+  bucket-long name = rw (put-length words n Bucket First len Word)
 
   bucket-kept : (i : ℕ) → i < n → bucketAt s Put i ≡ bucketAt s words i
   bucket-kept i h = bucket-long (nameAt (s .card) Put i) ∙ ap (bucketOf (s .op) words) (name-kept i h)
@@ -107,8 +121,8 @@ module _ (s : Scope) (words : List ℕ) (n at len base : ℕ) (small : base < 65
   heads-put : (b : ℕ) → b < room Put → headOf Put b ≡ latest (isIn s Put b) (suc n)
   unfolding latest
   heads-put b h =
-      let e = put-length words n Bucket at len Word in
-      put-heads words n Bucket at len Word r bucket-most head-small b
+      let e = put-length words n Bucket First len Word in
+      put-heads words n Bucket First len Word r bucket-most head-small b
       ∙ rw (bucket-new, latest-kept b n (omega arith), c .heads b (omega arith))
       (ap (λ (x : Bool). cond x (suc n) (latest (isIn s words b) n)) (eqb-turned b Bucket))
 
@@ -116,10 +130,10 @@ module _ (s : Scope) (words : List ℕ) (n at len base : ℕ) (small : base < 65
   links-put i h =
       by-test (eqb i n)
       (λ t. rw (eqb-true i n t, bucket-new, latest-kept Bucket n (omega arith))
-      (put-next words n Bucket at len Word r bucket-most head-small head-most ∙ c .heads Bucket bucket-most))
+      (put-next words n Bucket First len Word r bucket-most head-small head-most ∙ c .heads Bucket bucket-most))
       (λ t. let l : i < n = less i n (omega arith) (eqb-false i n t) in
       rw (bucket-kept i l, latest-kept (bucketAt s words i) i (omega arith))
-      (put-nexts words n Bucket at len Word r bucket-most head-small i l ∙ c .links i l))
+      (put-nexts words n Bucket First len Word r bucket-most head-small i l ∙ c .links i l))
 
   bases-put : (i : ℕ) → i < suc n → wordAt Put i ≡ baseWord (s .op) (s .card) (placeIn (wordAt Put i))
   bases-put i h =
@@ -127,5 +141,12 @@ module _ (s : Scope) (words : List ℕ) (n at len base : ℕ) (small : base < 65
       (λ t. rw (eqb-true i n t, word-new) (ap (baseWord (s .op) (s .card)) (sym (word-place (s .op) (s .card) base small))))
       (λ t. let l : i < n = less i n (omega arith) (eqb-false i n t) in rw (word-kept i l) (c .bases i l))
 
+  numbers-put : (i : ℕ) → i < suc n → numberAt Put i ≡ numberOf (s .op) (nameAt (s .card) Put i)
+  numbers-put i h =
+      by-test (eqb i n)
+      (λ t. rw (eqb-true i n t) (number-new ∙ ap (numberOf (s .op)) (sym name-new)))
+      (λ t. let l : i < n = less i n (omega arith) (eqb-false i n t) in
+      ap (λ (x : ℕ). x / 65536) (first-kept i l) ∙ c .numbers i l ∙ ap (numberOf (s .op)) (sym (name-kept i l)))
+
   pub chained-put : Chained s Put (suc n)
-  chained-put = record { heads = heads-put; links = links-put; bases = bases-put }
+  chained-put = record { heads = heads-put; links = links-put; bases = bases-put; numbers = numbers-put }

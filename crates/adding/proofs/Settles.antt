@@ -1,7 +1,7 @@
 -- A SETTLED TABLE has the pairs that it had, in just the words that they take, and its chains are whole. Assumes nothing.
 use mathlib.Core.Path.{_≡_, refl, sym, ap, subst, _∙_}
 use mathlib.Core.List.{List, _++_}
-use Prim.Native.Nat.{ℕ, zero, suc, _+_, _-_, _*_, _/_, _<_, _≤_, min}
+use Prim.Native.Nat.{ℕ, zero, suc, _+_, _-_, _*_, _/_, _%_, _<_, _≤_, min}
 use native.Mathlib.Omega.{arith}
 use native.Mathlib.Nat.{add-zero}
 use lib.ListN.{length, take, getD, set, length-append, take-append-drop}
@@ -13,7 +13,7 @@ use Rattle.rast.proofs.Tests.{by-test}
 use Rattle.prefix.specs.Prefix.{Scope}
 use Rattle.operation.specs.declared.Shortening.{Shortening}
 use Rattle.comparing.specs.Compares.{placeIn, baseWord}
-use Rattle.chains.specs.Chains.{room, nameAt, wordAt, bucketOf}
+use Rattle.chains.specs.Chains.{room, nameAt, numberAt, numberOf, wordAt, bucketOf}
 use Rattle.pairs.specs.Stored.{Stored}
 use Rattle.adding.specs.Adds.{Table, table, startedFrom, started, putPair}
 use Rattle.adding.specs.Holds.{pairAt, pairsFrom, pairsIn, Chained, Has}
@@ -58,20 +58,37 @@ module _ (op : Shortening) (card : Bytes) where
   again-same words i r j k l =
       by-test (eqb j i) (λ t. rw (eqb-true j i t) (again-own words i r k l)) (λ t. again-other words i j k (eqb-false j i t) l)
 
--- each base is a word
+-- each base is a word, and each name's number its own
+abbrev Word : Scope → List ℕ → ℕ → Type 0
+Word s words i =
+    (wordAt words i ≡ baseWord (s .op) (s .card) (placeIn (wordAt words i))) × (numberAt words i ≡ numberOf (s .op) (nameAt (s .card) words i))
+
 abbrev Words : Scope → List ℕ → ℕ → Type 0
-Words s words n = (i : ℕ) → i < n → wordAt words i ≡ baseWord (s .op) (s .card) (placeIn (wordAt words i))
+Words s words n = (i : ℕ) → i < n → Word s words i
+
+word-same : (s : Scope) (words these : List ℕ) (n i : ℕ) → Same words these n → i < n → Word s these i → Word s words i
+word-same s words these n i h l w =
+    let z : 4 * i + 0 ≡ 4 * i = omega arith in
+    let a : getD words (4 * i) 0 ≡ getD these (4 * i) 0 = rw z at (h i 0 l (omega arith)) in
+    rw (a, h i 1 l (omega arith), h i 2 l (omega arith)) w
+
+halves : (x y : ℕ) → x / 65536 ≡ y → x % 65536 + 65536 * y ≡ x
+halves x y e = omega arith
 
 module _ (s : Scope) where
-  chained-again : (words : List ℕ) (i : ℕ) → i < room words → wordAt words i ≡ baseWord (s .op) (s .card) (placeIn (wordAt words i))
-      → Chained s words i → Chained s (putAgain (s .op) (s .card) words i) (suc i)
+  chained-again : (words : List ℕ) (i : ℕ) → i < room words → Word s words i → Chained s words i
+      → Chained s (putAgain (s .op) (s .card) words i) (suc i)
   unfolding putAgain
   chained-again words i r e c =
       subst (λ (w : ℕ). Chained s
       (putPair words i (bucketOf (s .op) words (nameAt (s .card) words i)) (getD words (4 * i) 0) (getD words (4 * i + 1) 0) w) (suc i))
-      (sym e)
+      (sym (e .0))
+      (subst (λ (x : ℕ). Chained s
+      (putPair words i (bucketOf (s .op) words (nameAt (s .card) words i)) x (getD words (4 * i + 1) 0)
+      (baseWord (s .op) (s .card) (placeIn (wordAt words i)))) (suc i))
+      (halves (getD words (4 * i) 0) _ (e .1))
       (chained-put s words i (getD words (4 * i) 0) (getD words (4 * i + 1) 0) (placeIn (wordAt words i))
-      (let z : placeIn (wordAt words i) < 65536 = omega arith in z) r c)
+      (let z : placeIn (wordAt words i) < 65536 = omega arith in z) r c))
 
   -- n pairs put again behind i that are: the chains of all are whole, and each is what it was
   pub record Rechained (these words : List ℕ) (n : ℕ) : Type 0 where
@@ -88,14 +105,13 @@ module _ (s : Scope) where
       let card = s .card in
       let long = h .long in
       let r : i < room words = omega arith in
-      let w : wordAt words i ≡ wordAt these i = h .same i 2 (omega arith) (omega arith) in
       let z : suc i + n ≡ i + suc n = omega arith in
       rw (sym z)
       (rechained these (putAgain op card words i) b (suc i) n (omega arith)
       (record {
         long = again-length op card words i ∙ h .long;
         same = λ j k g o. again-same op card words i r j k o ∙ h .same j k g o;
-        chained = chained-again words i r (rw w (b i (omega arith))) (h .chained);
+        chained = chained-again words i r (word-same s words these (room these) i (h .same) (omega arith) (b i (omega arith))) (h .chained);
       }))
 
 -- starting a table leaves the three words of each pair
@@ -127,11 +143,10 @@ module _ (s : Scope) (words : List ℕ) (n : ℕ) (r : n ≤ room words) where
   own-same : Same Own words n
   own-same i k g l = getD-take (4 * n) words (4 * i + k) 0 (omega arith)
 
-  own-bases : Chained s words n → Words s Own (room Own)
-  own-bases c i l =
+  own-words : Chained s words n → Words s Own (room Own)
+  own-words c i l =
       let e = own-room in
-      let w : wordAt Own i ≡ wordAt words i = own-same i 2 (omega arith) (omega arith) in
-      rw w (c .bases i (omega arith))
+      word-same s Own words n i own-same (omega arith) (c .bases i (omega arith), c .numbers i (omega arith))
 
   started-rechained : Rechained s Own (started Own) 0
   unfolding started
@@ -148,7 +163,7 @@ module _ (s : Scope) (words : List ℕ) (n : ℕ) (r : n ≤ room words) where
       let e = own-room in
       let z : 0 + room Own ≡ n = omega arith in
       subst (Rechained s Own (putAgainFrom (s .op) (s .card) (started Own) 0 (room Own))) z
-      (rechained s Own (started Own) (own-bases c) 0 (room Own) (omega arith) started-rechained)
+      (rechained s Own (started Own) (own-words c) 0 (room Own) (omega arith) started-rechained)
 
   settled-pairs : Chained s words n → pairsIn s (settled (s .op) (s .card) Own) n ≡ pairsIn s words n
   settled-pairs c =
@@ -185,6 +200,7 @@ module _ (op : Shortening) (card : Bytes) (t : Table) where
   pub settled-own : t .count ≤ room (t .words) → ownWords (settledTable op card t) ≡ settled op card (ownWords t)
   unfolding settledTable
   settled-own r =
-      let l : length (settled op card (ownWords t)) ≡ 4 * t .count = settled-length op card (ownWords t) ∙ length-take-le (4 * t .count) (t .words) (omega arith) in
+      let l : length (settled op card (ownWords t)) ≡ 4 * t .count =
+      settled-length op card (ownWords t) ∙ length-take-le (4 * t .count) (t .words) (omega arith) in
       rw (le-ltb (room (t .words)) (t .count) r)
       (ap (λ (x : ℕ). take x (settled op card (ownWords t) ++ freeWords t)) (sym l) ∙ take-append-seam (settled op card (ownWords t)) (freeWords t))

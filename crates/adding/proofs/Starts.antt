@@ -55,5 +55,10 @@ start-has s words =
     record {
       count = omega arith;
       pairs = λ h. refl;
-      chained = λ h. record { heads = start-heads s words; links = λ i l. absurd (omega arith); bases = λ i l. absurd (omega arith) };
+      chained = λ h. record {
+        heads = start-heads s words;
+        links = λ i l. absurd (omega arith);
+        bases = λ i l. absurd (omega arith);
+        numbers = λ i l. absurd (omega arith);
+      };
     }

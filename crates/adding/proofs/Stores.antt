@@ -2,7 +2,7 @@
 use mathlib.Core.Path.{_≡_, ap, _∙_}
 use mathlib.Core.List.{List, [], _∷_, _++_}
 use mathlib.Core.Bool.{true, false, _||_}
-use Prim.Native.Nat.{ℕ, suc, _+_, _<_, _≤_}
+use Prim.Native.Nat.{ℕ, suc, _+_, _%_, _<_, _≤_}
 use native.Mathlib.Omega.{arith}
 use native.Mathlib.Numerals.{add-one}
 use lib.ListN.{length, take, drop, length-append}
@@ -15,7 +15,7 @@ use Rattle.prefix.specs.Prefix.{Scope}
 use Rattle.comparing.specs.Compares.{baseAt}
 use Rattle.chains.specs.Chains.{room}
 use Rattle.pairs.specs.Stored.{Stored, stored, holdsPair, store}
-use Rattle.adding.specs.Adds.{Table, table, putPair, nameIn, bucketIn, wordIn, isThere, added}
+use Rattle.adding.specs.Adds.{Table, table, putPair, nameIn, namedIn, bucketIn, wordIn, isThere, added}
 use Rattle.adding.specs.Holds.{Has}
 use Rattle.adding.proofs.Puts.{put-length}
 use Rattle.adding.proofs.Keeps.{pairs-put, chained-put}
@@ -36,7 +36,8 @@ unfolding added
 added-length s t at len base =
     by-test (ltb (room (t .words)) (t .count) || isThere s (t .words) at len base) (λ e. rw e)
     (λ e. by-test (eqb (t .count) (room (t .words))) (λ f. rw (e, f))
-    (λ f. rw (e, f) (put-length (t .words) (t .count) (bucketIn s (t .words) at len base) at len (wordIn s (t .words) at len base))))
+    (λ f. rw (e, f)
+    (put-length (t .words) (t .count) (bucketIn s (t .words) at len base) (namedIn s (t .words) at len base) len (wordIn s (t .words) at len base))))
 
 module _ (s : Scope) (t : Table) (at len base : ℕ) (ps : List Stored) (small : base < 65536) (h : Has s t ps) where
   abbrev n : ℕ
@@ -86,12 +87,13 @@ module _ (s : Scope) (t : Table) (at len base : ℕ) (ps : List Stored) (small :
           let l = one-more in
           rw e (record { count = omega arith; pairs = λ o. absurd (omega arith); chained = λ o. absurd (omega arith) })
 
-      new : n < room words → Stores (table (n + 1) (putPair words n (bucketIn s words at len base) at len (wordIn s words at len base)))
+      new : n < room words
+          → Stores (table (n + 1) (putPair words n (bucketIn s words at len base) (namedIn s words at len base) len (wordIn s words at len base)))
       unfolding store
       new g =
           let c = h .count in
           let l = one-more in
-          let w = put-length words n (bucketIn s words at len base) at len (wordIn s words at len base) in
+          let w = put-length words n (bucketIn s words at len base) (namedIn s words at len base) len (wordIn s words at len base) in
           rw (e, add-one n)
           (record {
             count = omega arith;
@@ -102,14 +104,14 @@ module _ (s : Scope) (t : Table) (at len base : ℕ) (ps : List Stored) (small :
 
 -- THE LAW: adding to words that have a list of pairs is storing into the list
 pub add-has : (s : Scope) (t : Table) (at len base : ℕ) (ps : List Stored) → base < 65536 → Has s t ps
-    → Has s (added s t at len base) (store (s .op) ps (take len (drop at (s .card))) (baseAt s base))
+    → Has s (added s t at len base) (store (s .op) ps (take len (drop (at % 65536) (s .card))) (baseAt s base))
 unfolding added
 add-has s t at len base ps small h =
     by-test (ltb (room (t .words)) (t .count))
     (λ f. rw f (full s t at len base ps small h (ltb-true (room (t .words)) (t .count) f)))
     (λ f. let r : t .count ≤ room (t .words) = ltb-false (room (t .words)) (t .count) f in
     rw (f, there-is s t at len base ps small h r)
-    (by-test (holdsPair (s .op) ps (take len (drop at (s .card))) (baseAt s base))
+    (by-test (holdsPair (s .op) ps (take len (drop (at % 65536) (s .card))) (baseAt s base))
     (λ e. rw e (old s t at len base ps small h e))
     (λ e. rw e
     (by-test (eqb (t .count) (room (t .words)))

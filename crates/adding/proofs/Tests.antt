@@ -1,13 +1,13 @@
 -- Adding a pair, case by case: what the contracts say in each. Assumes nothing.
 use mathlib.Core.Path.{_≡_, refl, sym, ap, _∙_}
-use mathlib.Core.Bool.{Bool, true, false, or-true}
+use mathlib.Core.Bool.{or-true}
 use mathlib.Core.List.{List}
-use Prim.Native.Nat.{ℕ, zero, suc, _+_, _-_, _*_, _/_, _%_, _^_, _<_, _≤_}
+use Prim.Native.Nat.{ℕ, suc, _+_, _-_, _*_, _/_, _%_, _<_, _≤_}
 use native.Mathlib.Omega.{arith}
 use native.Mathlib.Numerals.{add-one}
 use native.Mathlib.Nat.{mod-lt}
 use lib.ListN.{length, take, drop, getD, set, length-set}
-use lib.Dec.{eqb, ltb}
+use lib.Dec.{ltb}
 use borrow.Author.Tests.{eq-eqb, ne-eqb, lt-ltb, le-ltb}
 use Rattle.wire.specs.Numbers.{Bytes}
 use Rattle.wire.proofs.Less.{less}
@@ -60,7 +60,7 @@ put-is words n b at len base first h l e f g = rw (g, f, e)
 -- a bucket is one of as many as there is room for
 pub bucket-inside : (op : Shortening) (words : List ℕ) (name : Bytes) → 0 < room words → bucketOf op words name < room words
 unfolding bucketOf
-bucket-inside op words name h = rw (ne-eqb (room words) 0 (λ z. omega arith)) (mod-lt (hash op name) h)
+bucket-inside op words name h = rw (ne-eqb (room words) 0 (λ z. omega arith)) (mod-lt (hash op name / 65536) h)
 
 module _ (s : Scope) (words : List ℕ) (n at len base : ℕ) (most : ℕ) (e : most ≡ room words) where
   abbrev After : Table
@@ -70,7 +70,7 @@ module _ (s : Scope) (words : List ℕ) (n at len base : ℕ) (most : ℕ) (e : 
   unfolding added
   add-full h = rw (lt-ltb (room words) n (omega arith))
 
-  module _ (r : n ≤ most) (a l : ℕ) (ea : a ≡ at) (el : l ≡ len) (name : Bytes) (p : name ≡ take l (drop a (s .card))) (b w first found : ℕ)
+  module _ (r : n ≤ most) (a l : ℕ) (ea : a ≡ at) (el : l ≡ len) (name : Bytes) (p : name ≡ take l (drop (a % 65536) (s .card))) (b w first found : ℕ)
       (f : b ≡ bucketOf (s .op) words name) (g : w ≡ baseWord (s .op) (s .card) base) (h : first ≡ headOf words b)
       (k : found ≡ seek (isWanted s words name (Based w)) words first) where
     name-is : name ≡ nameIn s words at len base
@@ -100,6 +100,9 @@ module _ (s : Scope) (words : List ℕ) (n at len base : ℕ) (most : ℕ) (e : 
         pub add-room : (n < room words) × (b < room words)
         add-room = let c = less n most r q in let d = bucket-inside (s .op) words name (omega arith) in (omega arith, omega arith)
 
-        pub add-new : (words′ : List ℕ) → words′ ≡ putPair words n b at len w → table (n + 1) words′ ≡ After
+        pub add-new : (x : ℕ) → x ≡ hash (s .op) name → (words′ : List ℕ) → words′ ≡ putPair words n b (a % 65536 + 65536 * (x % 65536)) len w
+            → table (n + 1) words′ ≡ After
         unfolding added
-        add-new words′ x = rw (there, le-ltb 0 found o, le-ltb (room words) n (omega arith), ne-eqb n (room words) (λ y. q (y ∙ sym e)), x, g, bucket-is)
+        add-new x d words′ y =
+            rw (there, le-ltb 0 found o, le-ltb (room words) n (omega arith), ne-eqb n (room words) (λ z. q (z ∙ sym e)))
+            (ap (table (n + 1)) (y ∙ rw (d, g, bucket-is, name-is, ea)))

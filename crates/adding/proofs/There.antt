@@ -16,23 +16,23 @@ use Rattle.comparing.specs.Compares.{hash, placeIn, tagIn, baseWord, baseAt, sa
 use Rattle.comparing.proofs.Operations.{hash-path}
 use Rattle.comparing.proofs.Bases.{word-place}
 use Rattle.chains.specs.declared.Want.the-variants.{Based}
-use Rattle.chains.specs.Chains.{room, nameAt, wordAt, headOf, hasWanted, isWanted, seekFrom, seek}
+use Rattle.chains.specs.Chains.{room, nameAt, wordAt, headOf, hasWanted, hasNamed, seekFrom, seek}
 use Rattle.pairs.specs.Stored.{holdsPair}
 use Rattle.adding.specs.Adds.{nameIn, bucketIn, wordIn, isThere}
 use Rattle.adding.specs.Holds.{latest, pairAt, pairsFrom, pairsIn, Chained}
 use Rattle.adding.proofs.Chain.{latest-most, latest-true, latest-none, seek-head}
 
--- the number above a path's place is its record's hash
-word-tag : (op : Shortening) (card : Bytes) (p : ℕ) → p < 65536 → eqb p 0 ≡ false → tagIn (baseWord op card p) ≡ hash op (recordAt card p)
+-- the number above a path's place is the upper half of its record's hash
+word-tag : (op : Shortening) (card : Bytes) (p : ℕ) → p < 65536 → eqb p 0 ≡ false → tagIn (baseWord op card p) ≡ hash op (recordAt card p) / 65536
 unfolding baseWord
-word-tag op card p l t = rw t (above p (hash op (recordAt card p)) l)
+word-tag op card p l t = rw t (above p (hash op (recordAt card p) / 65536) l)
   where
     above : (p h : ℕ) → p < 65536 → (p + 65536 * h) / 65536 ≡ h
     above p h l = omega arith
 
 module _ (s : Scope) (p q : ℕ) where
   abbrev Hash : ℕ → ℕ
-  Hash x = hash (s .op) (recordAt (s .card) x)
+  Hash x = hash (s .op) (recordAt (s .card) x) / 65536
 
   -- different hashes, different paths
   hashed : eqb p 0 ≡ false → eqb q 0 ≡ false
@@ -41,7 +41,7 @@ module _ (s : Scope) (p q : ℕ) where
   hashed t u =
       rw (t, u)
       (by-test (samePaths (s .op) (recordAt (s .card) p) (recordAt (s .card) q))
-      (λ v. rw (v, eq-eqb (Hash p) (Hash q) (hash-path (s .op) (recordAt (s .card) p) (recordAt (s .card) q) v)))
+      (λ v. rw (v, eq-eqb (Hash p) (Hash q) (ap (λ (x : ℕ). x / 65536) (hash-path (s .op) (recordAt (s .card) p) (recordAt (s .card) q) v))))
       (λ v. rw v (by-test (eqb (Hash p) (Hash q)) (λ w. rw w) (λ w. rw w))))
 
   -- numbers above places never separate bases that are the same
@@ -89,8 +89,8 @@ module _ (s : Scope) (words : List ℕ) (n : ℕ) (r : n ≤ room words) (c : Ch
   abbrev Name : Bytes
   Name = nameIn s words at len base
 
-  wanted-is : (i : ℕ) → i < n → isWanted s words Name (Based (wordIn s words at len base)) i ≡ Is s words Name (baseAt s base) i
-  unfolding isWanted hasWanted
+  wanted-is : (i : ℕ) → i < n → hasNamed s words Name (Based (wordIn s words at len base)) i ≡ Is s words Name (baseAt s base) i
+  unfolding hasNamed hasWanted
   wanted-is i h =
       ap (λ (x : Bool). operationOf (s .op) .sameName (nameAt (s .card) words i) Name && x)
       (ap (λ (w : ℕ). sameBase s w (wordIn s words at len base)) (c .bases i h)
@@ -109,7 +109,7 @@ module _ (s : Scope) (words : List ℕ) (n : ℕ) (r : n ≤ room words) (c : Ch
   unfolding isThere
   there-some o =
       rw (seek-head s words n r c Name (Based (wordIn s words at len base)) o)
-      (holds-latest s words Name (baseAt s base) (isWanted s words Name (Based (wordIn s words at len base))) n wanted-is)
+      (holds-latest s words Name (baseAt s base) (hasNamed s words Name (Based (wordIn s words at len base))) n wanted-is)
 
   -- THE LAW: seeking finds a pair just where the words hold it
   pub there-holds : isThere s words at len base ≡ Holds

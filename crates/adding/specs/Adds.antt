@@ -8,7 +8,7 @@ use Rattle.wire.specs.Numbers.{Bytes}
 use Rattle.prefix.specs.Prefix.{Scope}
 use Rattle.comparing.specs.Compares.{baseWord}
 use Rattle.chains.specs.declared.Want.the-variants.{Based}
-use Rattle.chains.specs.Chains.{room, bucketOf, headOf, isWanted, seek}
+use Rattle.chains.specs.Chains.{room, numberOf, bucketOf, headOf, isWanted, seek}
 
 -- how many pairs there are, and the words that hold them; one more than the words have room for is a full table
 pub record Table : Type 0 where
@@ -26,7 +26,7 @@ startedFrom words i (suc n) = startedFrom (set words (4 * i + 3) 0) (suc i) n
 unfoldable pub started : List ℕ → List ℕ
 started words = startedFrom words 0 (room words)
 
--- a pair that n pairs stand ahead of, as the newest of bucket b: its link is the head that the bucket had
+-- a pair that n pairs stand ahead of, by its first three words, as the newest of bucket b: its link is the head that the bucket had
 unfoldable pub putPair : List ℕ → (n b at len base : ℕ) → List ℕ
 putPair words n b at len base =
     let three : List ℕ = set (set (set words (4 * n) at) (4 * n + 1) len) (4 * n + 2) base in
@@ -36,7 +36,11 @@ putPair words n b at len base =
 -- the name at a place of the card with a base is put last, if it is not there and there is room
 module _ (s : Scope) (words : List ℕ) (at len base : ℕ) where
   abbrev pub nameIn : Bytes
-  nameIn = take len (drop at (s .card))
+  nameIn = take len (drop (at % 65536) (s .card))
+
+  -- its place and above it its number
+  abbrev pub namedIn : ℕ
+  namedIn = at % 65536 + 65536 * numberOf (s .op) nameIn
 
   abbrev pub bucketIn : ℕ
   bucketIn = bucketOf (s .op) words nameIn
@@ -52,4 +56,5 @@ added s t at len base =
     let n : ℕ = t .count in
     let words : List ℕ = t .words in
     cond (ltb (room words) n || isThere s words at len base) t
-    (cond (eqb n (room words)) (table (n + 1) words) (table (n + 1) (putPair words n (bucketIn s words at len base) at len (wordIn s words at len base))))
+    (cond (eqb n (room words)) (table (n + 1) words)
+    (table (n + 1) (putPair words n (bucketIn s words at len base) (namedIn s words at len base) len (wordIn s words at len base))))

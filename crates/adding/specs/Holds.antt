@@ -7,7 +7,7 @@ use lib.ListN.{length}
 use lib.Dec.{eqb}
 use Rattle.prefix.specs.Prefix.{Scope}
 use Rattle.comparing.specs.Compares.{placeIn, baseWord, baseAt}
-use Rattle.chains.specs.Chains.{room, nameAt, wordAt, bucketOf, headOf, nextOf}
+use Rattle.chains.specs.Chains.{room, nameAt, numberAt, numberOf, wordAt, bucketOf, headOf, nextOf}
 use Rattle.pairs.specs.Stored.{Stored, stored}
 use Rattle.adding.specs.Adds.{Table}
 
@@ -35,11 +35,13 @@ module _ (s : Scope) where
   abbrev pub isIn : List ℕ → ℕ → ℕ → Bool
   isIn words b i = eqb (bucketAt words i) b
 
-  -- the chains of n pairs are whole: a bucket's head is its newest pair, a pair's link is the newest of its bucket ahead of it; and each base is a word
+  -- the chains of n pairs are whole: a bucket's head is its newest pair, a pair's link is the newest of its bucket ahead of it; and each base is a word,
+  -- each name's number its own
   pub record Chained (words : List ℕ) (n : ℕ) : Type 0 where
     pub heads : (b : ℕ) → b < room words → headOf words b ≡ latest (isIn words b) n
     pub links : (i : ℕ) → i < n → nextOf words (suc i) ≡ latest (isIn words (bucketAt words i)) i
     pub bases : (i : ℕ) → i < n → wordAt words i ≡ baseWord (s .op) (s .card) (placeIn (wordAt words i))
+    pub numbers : (i : ℕ) → i < n → numberAt words i ≡ numberOf (s .op) (nameAt (s .card) words i)
 
   -- a table has these pairs; where there is no room for all of them, its count is one more than there is room for
   pub record Has (t : Table) (ps : List Stored) : Type 0 where

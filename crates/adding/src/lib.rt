@@ -21,7 +21,7 @@ pub fn start(work: &mut [u32])
     }
 }
 
-// A pair that n pairs stand ahead of becomes the newest of bucket b.
+// A pair that n pairs stand ahead of becomes the newest of bucket b. Its first word is the name's place with the name's number above it.
 fn put(work: &mut [u32], n: usize, b: usize, at: u32, len: u32, base: u32)
     requires { ⌜ (n < room (now work)) × (b < room (now work)) ⌝ }
     ensures { λ r. ⌜ now (work .exit) ≡ putPair (now (work .entry)) n b at len base ⌝ }
@@ -39,7 +39,7 @@ fn put(work: &mut [u32], n: usize, b: usize, at: u32, len: u32, base: u32)
 }
 
 // The pair is put last among n pairs, if it is not there. The answer is how many pairs there are then; one more than the words have room for says
-// that the table is full, and stays.
+// that the table is full, and stays. A name stands at a place that fits a half word.
 pub fn add(
     op: Shortening,
     card: &[u8],
@@ -58,7 +58,8 @@ pub fn add(
     if most < n {
         return n;
     }
-    let name = wire::part(card, wire::word(at), wire::word(len));
+    let place = wire::word(at) % 65536;
+    let name = wire::part(card, place, wire::word(len));
     let b = chains::bucket(op, work, name);
     let w = comparing::base_word(op, card, base);
     let first = chains::head(work, b);
@@ -68,7 +69,8 @@ pub fn add(
     if n == most {
         return n + 1;
     }
-    put(work, n, b, at, len, w as u32);
+    let named = place + 65536 * (comparing::hash(op, name) % 65536);
+    put(work, n, b, named as u32, len, w as u32);
     n + 1
 }
 
@@ -81,7 +83,7 @@ fn put_again(op: Shortening, card: &[u8], work: &mut [u32], i: usize)
     let at = work[k];
     let len = work[k + 1];
     let base = work[k + 2];
-    let name = wire::part(card, wire::word(at), wire::word(len));
+    let name = wire::part(card, wire::word(at) % 65536, wire::word(len));
     let b = chains::bucket(op, work, name);
     put(work, i, b, at, len, base);
 }

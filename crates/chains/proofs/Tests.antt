@@ -17,14 +17,15 @@ use Rattle.prefix.specs.Prefix.{Scope}
 use Rattle.comparing.specs.Compares.{hash, placeIn, tagIn, sameBase}
 use Rattle.chains.specs.declared.Want.{Want}
 use Rattle.chains.specs.declared.Want.the-variants.{Named, Based, Runtime}
-use Rattle.chains.specs.Chains.{room, nameAt, wordAt, linkAt, bucketOf, headOf, nextOf, hasWanted, isOther, isWanted, seekFrom, seek}
+use Rattle.chains.specs.Chains.{room, nameAt, numberAt, numberOf, wordAt, linkAt, bucketOf, headOf, nextOf, hasWanted, isOther, hasNamed, isWanted}
+use Rattle.chains.specs.Chains.{seekFrom, seek}
 
 module _ (op : Shortening) (words : List ℕ) (name : Bytes) (n : ℕ) (e : n ≡ room words) where
   pub bucket-none : n ≡ 0 → 0 ≡ bucketOf op words name
   unfolding bucketOf
   bucket-none z = rw (eq-eqb (room words) 0 (sym e ∙ z))
 
-  pub bucket-some : (n ≡ 0 → ⊥) → (h : ℕ) → (h ≡ hash op name) × (h < 65536) → h % n ≡ bucketOf op words name
+  pub bucket-some : (n ≡ 0 → ⊥) → (h : ℕ) → (h ≡ hash op name) × (h < 2 ^ 32) → h / 65536 % n ≡ bucketOf op words name
   unfolding bucketOf
   bucket-some z h f = rw (e, f .0, ne-eqb (room words) 0 (λ y. z (e ∙ y)))
 
@@ -103,8 +104,9 @@ module _ (s : Scope) where
 
   pub wanted-passed : (words : List ℕ) (name : Bytes) (want : Want) (i w : ℕ) (t : Bool) → w ≡ wordAt words i → t ≡ isOther want w → t ≡ true
       → false ≡ isWanted s words name want i
-  unfolding isWanted
-  wanted-passed words name want i w t h e y = rw (← h, other-not want w (sym e ∙ y), and-false)
+  unfolding isWanted hasNamed
+  wanted-passed words name want i w t h e y =
+      rw (← h, other-not want w (sym e ∙ y), and-false, and-false (eqb (numberAt words i) (numberOf (s .op) name)))
 
   module _ (want : Want) (w : ℕ) where
     pub wanted-named : want ≡ Named → true ≡ hasWanted s want w
@@ -126,19 +128,27 @@ module _ (s : Scope) where
       runtime-path z x r f g = g ∙ rw (e, f, ne-eqb (w % 65536) 0 z)
 
   -- a pair by its first three words
-  module _ (words : List ℕ) (name : Bytes) (want : Want) (i at len : ℕ) (own : Bytes) (t : Bool) (a : at ≡ getD words (4 * i) 0)
-      (l : len ≡ getD words (4 * i + 1) 0)
-      (e : own ≡ take len (drop at (s .card))) (f : t ≡ operationOf (s .op) .sameName own name) where
-    named : t ≡ operationOf (s .op) .sameName (nameAt (s .card) words i) name
-    named = f ∙ ap (λ (x : Bytes). operationOf (s .op) .sameName x name) (e ∙ rw (a, l))
-
-    pub wanted-other : not t ≡ true → false ≡ isWanted s words name want i
+  module _ (words : List ℕ) (name : Bytes) (want : Want) (i v : ℕ) (a : v ≡ getD words (4 * i) 0) (n : ℕ) (m : n ≡ numberOf (s .op) name) where
+    pub wanted-number : (v / 65536 ≡ n → ⊥) → false ≡ isWanted s words name want i
     unfolding isWanted
-    wanted-other n = rw (← named, not-true t n)
+    wanted-number d = rw (← a, ← m, ne-eqb (v / 65536) n d)
 
-    pub wanted-same : not t ≡ false → (w : ℕ) (r : Bool) → w ≡ wordAt words i → r ≡ hasWanted s want w → r ≡ isWanted s words name want i
-    unfolding isWanted
-    wanted-same n w r h g = g ∙ rw (← named, not-false t n, h)
+    module _ (q : v / 65536 ≡ n) (len : ℕ) (own : Bytes) (t : Bool) (l : len ≡ getD words (4 * i + 1) 0)
+        (e : own ≡ take len (drop (v % 65536) (s .card))) (f : t ≡ operationOf (s .op) .sameName own name) where
+      named : t ≡ operationOf (s .op) .sameName (nameAt (s .card) words i) name
+      named = f ∙ ap (λ (x : Bytes). operationOf (s .op) .sameName x name) (e ∙ rw (a, l))
+
+      numbered : isWanted s words name want i ≡ hasNamed s words name want i
+      unfolding isWanted
+      numbered = rw (eq-eqb (numberAt words i) (numberOf (s .op) name) (ap (λ (x : ℕ). x / 65536) (sym a) ∙ q ∙ m))
+
+      pub wanted-other : not t ≡ true → false ≡ isWanted s words name want i
+      unfolding hasNamed
+      wanted-other d = rw (numbered, ← named, not-true t d)
+
+      pub wanted-same : not t ≡ false → (w : ℕ) (r : Bool) → w ≡ wordAt words i → r ≡ hasWanted s want w → r ≡ isWanted s words name want i
+      unfolding hasNamed
+      wanted-same d w r h g = g ∙ rw (numbered, ← named, not-false t d, h)
 
 -- seeking: what is left of a chain has what the whole has
 module _ (f : ℕ → Bool) (words : List ℕ) where
@@ -161,6 +171,10 @@ module _ (f : ℕ → Bool) (words : List ℕ) where
   pub seek-past : (from n : ℕ) → n ≡ room words → n < from → 0 ≡ seek f words from
   unfolding seek
   seek-past from n e l = rw (lt-ltb (room words) from (omega arith))
+
+  pub seek-zero : (from : ℕ) → from ≡ 0 → 0 ≡ seek f words from
+  unfolding seek seekFrom
+  seek-zero from z = rw (z, le-ltb (room words) 0 (omega arith))
 
   pub seek-start : (from n : ℕ) → n ≡ room words → from ≤ n → Seeking from from
   unfolding seek

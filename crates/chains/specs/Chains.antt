@@ -18,9 +18,12 @@ use Rattle.chains.specs.declared.Want.the-variants.{Named, Based, Runtim
 abbrev pub room : List ℕ → ℕ
 room words = min (length words / 4) 65535
 
--- of the pair that i pairs stand ahead of: its name, its base as a word, its link and bucket i's head
+-- of the pair that i pairs stand ahead of: its name, the number above the name's place, its base as a word, its link and bucket i's head
 abbrev pub nameAt : Bytes → List ℕ → ℕ → Bytes
-nameAt card words i = take (getD words (4 * i + 1) 0) (drop (getD words (4 * i) 0) card)
+nameAt card words i = take (getD words (4 * i + 1) 0) (drop (getD words (4 * i) 0 % 65536) card)
+
+abbrev pub numberAt : List ℕ → ℕ → ℕ
+numberAt words i = getD words (4 * i) 0 / 65536
 
 abbrev pub wordAt : List ℕ → ℕ → ℕ
 wordAt words i = getD words (4 * i + 2) 0
@@ -31,9 +34,13 @@ linkAt words i = getD words (4 * i + 3) 0 % 65536
 abbrev pub headAt : List ℕ → ℕ → ℕ
 headAt words i = getD words (4 * i + 3) 0 / 65536
 
--- the bucket of a name, a bucket's newest pair, and the pair after pair g, by their numbers from 1 on
+-- the number of a name: the lower half of its hash
+abbrev pub numberOf : Shortening → Bytes → ℕ
+numberOf op name = hash op name % 65536
+
+-- the bucket of a name, by the upper half of its hash, a bucket's newest pair, and the pair after pair g, by their numbers from 1 on
 unfoldable pub bucketOf : Shortening → List ℕ → Bytes → ℕ
-bucketOf op words name = cond (eqb (room words) 0) 0 (hash op name % room words)
+bucketOf op words name = cond (eqb (room words) 0) 0 (hash op name / 65536 % room words)
 
 unfoldable pub headOf : List ℕ → ℕ → ℕ
 headOf words b = cond (ltb b (room words)) (headAt words b) 0
@@ -54,8 +61,13 @@ module _ (s : Scope) where
   hasWanted (Based v) w = sameBase s w v
   hasWanted Runtime w = not (eqb (placeIn w) 0) && sameBytes (recordAt (s .card) (placeIn w)) (encode «dafny_runtime»)
 
+  -- whether a pair has this name and what is sought
+  unfoldable pub hasNamed : List ℕ → Bytes → Want → ℕ → Bool
+  hasNamed words name want i = operationOf (s .op) .sameName (nameAt (s .card) words i) name && hasWanted want (wordAt words i)
+
+  -- the same with the numbers compared first: names with different numbers are different
   unfoldable pub isWanted : List ℕ → Bytes → Want → ℕ → Bool
-  isWanted words name want i = operationOf (s .op) .sameName (nameAt (s .card) words i) name && hasWanted want (wordAt words i)
+  isWanted words name want i = eqb (numberAt words i) (numberOf (s .op) name) && hasNamed words name want i
 
 -- the first pair of the chain from pair g on that a test holds of; n bounds how many are looked at, and g suffices, since links fall
 unfoldable pub seekFrom : (ℕ → Bool) → List ℕ → ℕ → ℕ → ℕ

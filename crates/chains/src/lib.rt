@@ -1,11 +1,12 @@
 // Pairs in work words, four to a pair: where the name stands in the card, how long it is, the base, and a link. Pairs are numbered from 1; 0 is none.
-// Pairs whose names are in the same bucket, by their hash modulo the room, are chained, the newest first: the lower half of a pair's fourth word is the
+// Above a name's place stands the lower half of its hash, which spares most comparisons of names. Pairs whose names are in the same bucket, by the upper half
+// modulo the room, are chained, the newest first: the lower half of a pair's fourth word is the
 // number of the next one, the upper half that of the first pair of the bucket that has this word's number.
 use operation::Shortening;
 ghost use mathlib.Core.Path.{_≡_};
 ghost use Prim.Native.Nat.{_-_, _<_, _≤_};
 ghost use Rattle.prefix.specs.Prefix.{scope};
-ghost use Rattle.chains.specs.Chains.{room as Chains·room, bucketOf, headOf, nextOf, hasWanted, isOther, isWanted, seek as Chains·seek};
+ghost use Rattle.chains.specs.Chains.{room as Chains·room, numberOf, bucketOf, headOf, nextOf, hasWanted, isOther, isWanted, seek as Chains·seek};
 
 // How many pairs words have room for: the number of a pair fits a half word.
 pub fn room(work: &[u32]) -> usize
@@ -26,7 +27,7 @@ pub fn bucket(op: Shortening, work: &[u32], name: &[u8]) -> usize
     if n == 0 {
         return 0;
     }
-    comparing::hash(op, name) % n
+    comparing::hash(op, name) / 65536 % n
 }
 
 // The newest pair of a bucket.
@@ -111,7 +112,7 @@ fn is_other(want: Want, w: usize) -> bool
     w / 65536 != v / 65536
 }
 
-// Whether pair g has this name and what is sought. The number of the base comes first: under one name there can be many bases.
+// Whether pair g has this name and what is sought. The numbers come first, that of the base before the name's: under one name there can be many bases.
 fn is_wanted(
     op: Shortening,
     card: &[u8],
@@ -120,9 +121,10 @@ fn is_wanted(
     work: &[u32],
     g: usize,
     name: &[u8],
+    number: usize,
     want: Want,
 ) -> bool
-    requires { ⌜ (0 < g) × (g ≤ Chains·room (now work)) ⌝ }
+    requires { ⌜ (0 < g) × (g ≤ Chains·room (now work)) × (number ≡ numberOf op (now name)) ⌝ }
     ensures { λ r. ⌜ r
         ≡ isWanted (scope op (now (card .entry)) (now (root .entry)) (now (chain .entry))) (now (work .entry)) (now (name .entry)) want (g - 1) ⌝ }
 {
@@ -131,7 +133,11 @@ fn is_wanted(
     if is_other(want, w) {
         return false;
     }
-    let own = wire::part(card, wire::word(work[k]), wire::word(work[k + 1]));
+    let v = wire::word(work[k]);
+    if v / 65536 != number {
+        return false;
+    }
+    let own = wire::part(card, v % 65536, wire::word(work[k + 1]));
     if !comparing::same_name(op, own, name) {
         return false;
     }
@@ -156,9 +162,13 @@ pub fn seek(
     if room(work) < from {
         return 0;
     }
+    if from == 0 {
+        return 0;
+    }
+    let number = comparing::hash(op, name) % 65536;
     let mut g = from;
     while 0 < g {
-        if is_wanted(op, card, root, chain, work, g, name, want) {
+        if is_wanted(op, card, root, chain, work, g, name, number, want) {
             return g;
         }
         g = next(work, g);

@@ -1,7 +1,7 @@
 -- The pair chosen for a name has the base that is chosen for it among the list of pairs. Assumes nothing.
 use mathlib.Core.Path.{_≡_, refl, sym, ap, subst, _∙_}
 use mathlib.Core.List.{List, [], _∷_}
-use mathlib.Core.Bool.{Bool, true, false, _&&_, cond, or-true, and-eq-true-iff, true≢false}
+use mathlib.Core.Bool.{Bool, true, _&&_, cond, or-true, and-eq-true-iff, true≢false}
 use mathlib.Core.Option.{Option, none, some}
 use Prim.Native.Nat.{ℕ, zero, suc, _-_, _<_, _≤_}
 use native.Mathlib.Omega.{arith}
@@ -23,7 +23,7 @@ use Rattle.comparing.specs.Compares.{placeIn, baseAt, sameBase}
 use Rattle.comparing.proofs.Operations.{upstream-path, paths-of}
 use Rattle.chains.specs.declared.Want.{Want}
 use Rattle.chains.specs.declared.Want.the-variants.{Named, Based, Runtime}
-use Rattle.chains.specs.Chains.{room, nameAt, wordAt, bucketOf, headOf, nextOf, hasWanted, isWanted, seek}
+use Rattle.chains.specs.Chains.{room, nameAt, wordAt, bucketOf, headOf, nextOf, hasWanted, hasNamed, isWanted, seek}
 use Rattle.pairs.specs.Stored.{Stored}
 use Rattle.pairs.specs.Choice.{choice}
 use Rattle.pairs.proofs.Bytes.{choice-none}
@@ -80,7 +80,7 @@ module _ (s : Scope) (words : List ℕ) (n : ℕ) (r : n ≤ room words) (c : Ch
 
   module _ (name : Bytes) where
     abbrev Test : Want → ℕ → Bool
-    Test = isWanted s words name
+    Test = hasNamed s words name
 
     abbrev Pick : Option Bytes → ℕ → Type 0
     Pick o g = Picks s (table n words) All name o g
@@ -92,15 +92,18 @@ module _ (s : Scope) (words : List ℕ) (n : ℕ) (r : n ≤ room words) (c : Ch
     Head = headOf words (bucketOf (s .op) words name)
 
     -- what is found, in a table with no room too
-    from-head : (want : Want) → latest (Test want) n ≡ seek (Test want) words Head
+    from-head : (want : Want) → latest (Test want) n ≡ seek (isWanted s words name want) words Head
     from-head want =
         by-test (eqb (room words) 0)
-        (λ z. let i = seek-inside (Test want) words Head in let m = latest-most (Test want) n in let e = eqb-true (room words) 0 z in omega arith)
+        (λ z. let i = seek-inside (isWanted s words name want) words Head in
+        let m = latest-most (Test want) n in
+        let e = eqb-true (room words) 0 z in
+        omega arith)
         (λ z. let d = eqb-false (room words) 0 z in sym (seek-head s words n r c name want (omega (arith, d))))
 
     wanted : (want : Want) (i : ℕ) → Test want i ≡ true
         → (operationOf (s .op) .sameName (nameAt (s .card) words i) name ≡ true) × (hasWanted s want (wordAt words i) ≡ true)
-    unfolding isWanted
+    unfolding hasNamed
     wanted want i h = and-eq-true-iff (operationOf (s .op) .sameName (nameAt (s .card) words i) name) (hasWanted s want (wordAt words i)) .0 h
 
     pick-pair : (o : Option Bytes) (want : Want) (i : ℕ) → latest (Test want) n ≡ suc i → o ≡ some (Base s words i) → Pick o (suc i)
@@ -120,14 +123,14 @@ module _ (s : Scope) (words : List ℕ) (n : ℕ) (r : n ≤ room words) (c : Ch
     one-choice i e f = rw (bases-some s words name n i e, bases-none s words name i f) (choice-one (s .op) (prefixIn s) (Base s words i))
 
     -- the pair after the newest
-    after : (i : ℕ) → latest (Test Named) n ≡ suc i → latest (Test Named) i ≡ seek (Test Named) words (nextOf words (suc i))
+    after : (i : ℕ) → latest (Test Named) n ≡ suc i → latest (Test Named) i ≡ seek (isWanted s words name Named) words (nextOf words (suc i))
     after i e =
         let l = latest-is (Test Named) n i e in
         sym (seek-after s words n r c name Named i (l .0) (named-bucket s words name Named i (l .1)))
 
     -- the prefix and dafny_runtime among a name's bases
     prefix-test : (i : ℕ) → Test (Based 0) i ≡ (IsNamed s words name i && samePaths (s .op) (prefixIn s) (Base s words i))
-    unfolding isWanted hasWanted
+    unfolding hasNamed hasWanted
     prefix-test i = rw (named-is s words name i, same-prefix s (wordAt words i), turned (paths-of (s .op)) (Base s words i) (prefixIn s))
 
     prefix-true : (i : ℕ) → operationOf (s .op) .sameName (nameAt (s .card) words i) name ≡ true → eqb (placeIn (wordAt words i)) 0 ≡ true
@@ -137,7 +140,7 @@ module _ (s : Scope) (words : List ℕ) (n : ℕ) (r : n ≤ room words) (c : Ch
 
     -- where no pair of the name has the prefix, those whose place is 0 need not be looked at
     runtime-test : latest (Test (Based 0)) n ≡ 0 → (i : ℕ) → i < n → Test Runtime i ≡ (IsNamed s words name i && samePaths (s .op) Run (Base s words i))
-    unfolding isWanted hasWanted baseAt
+    unfolding hasNamed hasWanted baseAt
     runtime-test z i l =
         rw (named-is s words name i)
         (by-test (operationOf (s .op) .sameName (nameAt (s .card) words i) name)

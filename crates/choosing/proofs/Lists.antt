@@ -16,7 +16,7 @@ use Rattle.operation.specs.Operations.{operationOf, samePaths}
 use Rattle.prefix.specs.Prefix.{Scope}
 use Rattle.comparing.specs.Compares.{placeIn, baseAt}
 use Rattle.chains.specs.declared.Want.the-variants.{Named}
-use Rattle.chains.specs.Chains.{nameAt, wordAt, hasWanted, isWanted}
+use Rattle.chains.specs.Chains.{nameAt, wordAt, hasWanted, hasNamed}
 use Rattle.pairs.specs.Stored.{Stored, stored}
 use Rattle.pairs.specs.Choice.{pairOf, baseOf, basesNamed, named}
 use Rattle.adding.specs.Holds.{latest, pairAt, pairsFrom, pairsIn}
@@ -89,13 +89,13 @@ module _ (s : Scope) (words : List ℕ) where
 
   module _ (name : Bytes) where
     abbrev pub IsNamed : ℕ → Bool
-    IsNamed = isWanted s words name Named
+    IsNamed = hasNamed s words name Named
 
     abbrev pub Bases : ℕ → List Bytes
     Bases n = basesNamed (s .op) (All n) name
 
     pub named-is : (i : ℕ) → IsNamed i ≡ operationOf (s .op) .sameName (nameAt (s .card) words i) name
-    unfolding isWanted hasWanted
+    unfolding hasNamed hasWanted
     named-is i = and-true (operationOf (s .op) .sameName (nameAt (s .card) words i) name)
 
     bases-last : (n : ℕ) → Bases (suc n) ≡ cond (IsNamed n) (Bases n ++ (Base n ∷ [])) (Bases n)

@@ -15,7 +15,7 @@ use Rattle.operation.specs.Operations.{samePaths}
 use Rattle.prefix.specs.Prefix.{Scope, prefixIn}
 use Rattle.comparing.specs.Compares.{placeIn, baseAt, sameBase}
 use Rattle.chains.specs.declared.Want.the-variants.{Named}
-use Rattle.chains.specs.Chains.{room, nameAt, wordAt, isWanted}
+use Rattle.chains.specs.Chains.{room, nameAt, wordAt, hasNamed}
 use Rattle.pairs.specs.Stored.{Stored, stored}
 use Rattle.pairs.specs.Choice.{choice, pairOf, baseOf, basesNamed, useOf, usesFrom, uses}
 use Rattle.adding.specs.Adds.{Table, table}
@@ -45,7 +45,7 @@ module _ (s : Scope) (words : List ℕ) (n : ℕ) (r : n ≤ room words) (c : Ch
     Choice = choice (s .op) (prefixIn s) (basesNamed (s .op) All Own)
 
     abbrev Ahead : ℕ
-    Ahead = latest (isWanted s words Own Named) i
+    Ahead = latest (hasNamed s words Own Named) i
 
     use-list : Use ≡ cond (ltb 0 Ahead) none (whether Choice none (λ b. cond (samePaths (s .op) b (prefixIn s)) none (some b)))
     unfolding useOf

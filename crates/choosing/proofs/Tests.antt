@@ -1,8 +1,8 @@
 -- What the functions answer, case by case. Assumes nothing.
-use mathlib.Core.Path.{_≡_, sym, ap, _∙_}
+use mathlib.Core.Path.{_≡_, refl, sym, ap, _∙_}
 use mathlib.Core.List.{List}
 use mathlib.Core.Bool.{Bool, true, false, _||_, cond}
-use Prim.Native.Nat.{ℕ, zero, suc, _+_, _-_, _*_, _<_, _≤_}
+use Prim.Native.Nat.{ℕ, zero, suc, _+_, _-_, _*_, _%_, _<_, _≤_}
 use native.Mathlib.Omega.{arith}
 use lib.ListN.{take, drop, getD}
 use lib.Dec.{eqb, ltb}
@@ -79,6 +79,10 @@ module _ (s : Scope) (words : List ℕ) (name : Bytes) where
       unfolding chosenPair
       chosen-several y r q = q ∙ rw (head-is, ← e, ne-eqb one 0 z, two-is, ne-eqb two 0 y)
 
+    -- the newest of a name after which there is none is the only one
+    pub chosen-newest : (g : ℕ) → 0 < g → seek (isWanted s words name Named) words (nextOf words g) ≡ 0 → one ≡ g → g ≡ chosenPair s words name
+    chosen-newest g o k q = sym q ∙ chosen-only (λ z. omega arith) (nextOf words one) 0 refl (rw q (sym k)) refl
+
 module _ (s : Scope) (words : List ℕ) (g : ℕ) where
   pub use-zero : g ≡ 0 → 0 ≡ usePair s words g
   unfolding usePair
@@ -90,7 +94,8 @@ module _ (s : Scope) (words : List ℕ) (g : ℕ) where
     use-past l = rw (ne-eqb g 0 z, lt-ltb (room words) g (omega arith))
 
     module _ (i : g ≤ n) (at len : ℕ) (name : Bytes) (a : at ≡ getD words (4 * (g - 1)) 0) (l : len ≡ getD words (4 * (g - 1) + 1) 0)
-        (p : name ≡ take len (drop at (s .card))) (m ahead : ℕ) (h : m ≡ nextOf words g) (k : ahead ≡ seek (isWanted s words name Named) words m) where
+        (p : name ≡ take len (drop (at % 65536) (s .card))) (m ahead : ℕ) (h : m ≡ nextOf words g)
+        (k : ahead ≡ seek (isWanted s words name Named) words m) where
       name-is : nameAt (s .card) words (g - 1) ≡ name
       name-is = sym (p ∙ rw (a, l))
 
@@ -100,6 +105,10 @@ module _ (s : Scope) (words : List ℕ) (g : ℕ) where
       of-name =
           let q : seek (isWanted s words name Named) words (nextOf words g) ≡ ahead = sym (k ∙ rw h) in
           rw (ne-eqb g 0 z, le-ltb (room words) g (omega arith), name-is, q)
+
+      -- none after pair g
+      pub none-after : ahead ≤ 0 → (0 < g) × (seek (isWanted s words name Named) words (nextOf words g) ≡ 0)
+      none-after o = (omega (arith, z), rw (← h) (sym k ∙ (let y : ahead ≡ 0 = omega arith in y)))
 
       pub use-later : 0 < ahead → 0 ≡ usePair s words g
       use-later o = sym (of-name ∙ rw (lt-ltb 0 ahead o))

@@ -2,7 +2,10 @@
 use chains::Want;
 use operation::Shortening;
 ghost use mathlib.Core.Path.{_≡_};
+ghost use Prim.Native.Nat.{_<_};
 ghost use Rattle.prefix.specs.Prefix.{scope};
+ghost use Rattle.chains.specs.declared.Want.the-variants.{Named};
+ghost use Rattle.chains.specs.Chains.{nextOf, isWanted, seek};
 ghost use Rattle.choosing.specs.Chooses.{chosenOfSeveral, chosenPair, usePair};
 
 // Among several pairs of a name: the one that has the prefix, else the one that has ::dafny_runtime.
@@ -49,6 +52,27 @@ pub fn chosen(
     chosen_of_several(op, card, root, chain, work, first, name)
 }
 
+// The same where no pair of the name comes after pair g: if pair g is the newest of the name it is the only one.
+fn chosen_after(
+    op: Shortening,
+    card: &[u8],
+    root: &[u8],
+    chain: &[usize],
+    work: &[u32],
+    name: &[u8],
+    g: usize,
+) -> usize
+    requires { ⌜ (0 < g)
+        × (seek (isWanted (scope op (now card) (now root) (now chain)) (now work) (now name) Named) (now work) (nextOf (now work) g) ≡ 0) ⌝ }
+    ensures { λ r. ⌜ r ≡ chosenPair (scope op (now (card .entry)) (now (root .entry)) (now (chain .entry))) (now (work .entry)) (now (name .entry)) ⌝ }
+{
+    let first = chains::head(work, chains::bucket(op, work, name));
+    if chains::seek(op, card, root, chain, work, first, name, Want::Named) == g {
+        return g;
+    }
+    chosen(op, card, root, chain, work, name)
+}
+
 // The pair that has the base of the use that pair g brings: the one chosen for its name, unless a pair ahead has the name, or the base is the prefix.
 pub fn use_of(
     op: Shortening,
@@ -67,12 +91,12 @@ pub fn use_of(
         return 0;
     }
     let k = 4 * (g - 1);
-    let name = wire::part(card, wire::word(work[k]), wire::word(work[k + 1]));
+    let name = wire::part(card, wire::word(work[k]) % 65536, wire::word(work[k + 1]));
     let after = chains::next(work, g);
     if 0 < chains::seek(op, card, root, chain, work, after, name, Want::Named) {
         return 0;
     }
-    let c = chosen(op, card, root, chain, work, name);
+    let c = chosen_after(op, card, root, chain, work, name, g);
     if c == 0 {
         return 0;
     }

@@ -1,19 +1,19 @@
 -- Whether two words say the same base, test by test. Assumes nothing.
 use mathlib.Core.Path.{_≡_, refl, sym, ap, _∙_}
-use mathlib.Core.Bool.{Bool, true, false, _||_, cond, or-true}
+use mathlib.Core.Bool.{Bool, true, false}
 use Prim.Native.Nat.{ℕ, _+_, _*_, _/_, _%_, _^_, _<_}
 use native.Mathlib.Omega.{arith}
 use lib.Dec.{eqb}
-use borrow.Author.Tests.{eq-eqb, ne-eqb, eqb-false}
+use borrow.Author.Tests.{eq-eqb, ne-eqb}
 use Rattle.wire.specs.Numbers.{Bytes, sameBytes}
 use Rattle.records.specs.Record.{recordAt}
 use Rattle.rast.proofs.Tests.{by-test}
-use Rattle.rast.proofs.Names.{Equivalence, turned}
+use Rattle.rast.proofs.Names.{turned}
 use Rattle.operation.specs.declared.Shortening.{Shortening}
 use Rattle.operation.specs.Operations.{samePaths}
 use Rattle.prefix.specs.Prefix.{Scope, prefixIn}
-use Rattle.comparing.specs.Compares.{hash, placeIn, tagIn, baseWord, baseAt, sameBase}
-use Rattle.comparing.proofs.Operations.{upstream-path, paths-of, hash-path}
+use Rattle.comparing.specs.Compares.{hash, placeIn, baseWord, baseAt, sameBase}
+use Rattle.comparing.proofs.Operations.{upstream-path, paths-of}
 use Rattle.comparing.proofs.Hashes.{hash-small}
 
 module _ (s : Scope) (v w : ℕ) where
@@ -58,12 +58,12 @@ module _ (op : Shortening) (card : Bytes) where
   unfolding baseWord
   word-prefix p z = rw z (refl, omega arith)
 
-  pub word-path : (p q h : ℕ) (x : Bytes) → p < 65536 → (p ≡ 0 → ⊥) → q ≡ p → x ≡ recordAt card q → (h ≡ hash op x) × (h < 65536)
-      → (q + 65536 * h ≡ baseWord op card p) × (q + 65536 * h < 2 ^ 32)
+  pub word-path : (p q h : ℕ) (x : Bytes) → p < 65536 → (p ≡ 0 → ⊥) → q ≡ p → x ≡ recordAt card q → (h ≡ hash op x) × (h < 2 ^ 32)
+      → (q + 65536 * (h / 65536) ≡ baseWord op card p) × (q + 65536 * (h / 65536) < 2 ^ 32)
   unfolding baseWord
   word-path p q h x l n c e f = rw (ne-eqb p 0 n) (c', omega (arith, f .1))
     where
-      c' : q + 65536 * h ≡ p + 65536 * hash op (recordAt card p)
+      c' : q + 65536 * (h / 65536) ≡ p + 65536 * (hash op (recordAt card p) / 65536)
       c' = rw (f .0, e, c)
 
   pub word-place : (p : ℕ) → p < 65536 → placeIn (baseWord op card p) ≡ p

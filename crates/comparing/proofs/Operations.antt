@@ -1,7 +1,8 @@
 -- What comparing and hashing come to, operation by operation. Assumes nothing.
-use mathlib.Core.Path.{_≡_, refl, ap}
+use mathlib.Core.Path.{_≡_, ap, _∙_}
 use mathlib.Core.Bool.{Bool, true}
-use Prim.Native.Nat.{ℕ, _<_}
+use Prim.Native.Nat.{ℕ, _*_, _%_, _^_, _<_}
+use native.Mathlib.Omega.{arith}
 use Rattle.wire.specs.Numbers.{Bytes, sameBytes}
 use Rattle.wire.proofs.Numbers.{sameBytes-true}
 use Rattle.rast.proofs.Names.{Equivalence, upstream-names}
@@ -16,8 +17,8 @@ upstream-name Upstream a b r h = h
 pub upstream-path : (op : Shortening) (a b : Bytes) (r : Bool) → r ≡ sameBytes a b → r ≡ samePaths op a b
 upstream-path Upstream a b r h = h
 
-pub upstream-hash : (op : Shortening) (s : Bytes) (r : ℕ) → (r ≡ hashFrom 0 s) × (r < 65536) → (r ≡ hash op s) × (r < 65536)
-upstream-hash Upstream s r h = h
+pub upstream-hash : (op : Shortening) (s : Bytes) (h r : ℕ) → h ≡ hashFrom 0 s → r ≡ h * 1831565813 % 4294967296 → (r ≡ hash op s) × (r < 2 ^ 32)
+upstream-hash Upstream s h r e f = (f ∙ rw e, omega arith)
 
 -- comparing bases is an equivalence
 pub paths-of : (op : Shortening) → Equivalence (samePaths op)
@@ -25,7 +26,7 @@ paths-of Upstream = upstream-names
 
 -- the hash is the same for names, and for paths, that are the same
 pub hash-name : (op : Shortening) (a b : Bytes) → operationOf op .sameName a b ≡ true → hash op a ≡ hash op b
-hash-name Upstream a b h = ap (hashFrom 0) (sameBytes-true a b h)
+hash-name Upstream a b h = ap (hash Upstream) (sameBytes-true a b h)
 
 pub hash-path : (op : Shortening) (a b : Bytes) → samePaths op a b ≡ true → hash op a ≡ hash op b
-hash-path Upstream a b h = ap (hashFrom 0) (sameBytes-true a b h)
+hash-path Upstream a b h = ap (hash Upstream) (sameBytes-true a b h)

@@ -1,44 +1,34 @@
 // When two names are the same and when two bases are: asked here alone. And numbers that are the same where these are, to look them up by.
 use operation::Shortening;
 ghost use mathlib.Core.Path.{_≡_};
-ghost use mathlib.Core.List.{[], _∷_};
 ghost use Prim.Native.Nat.{_<_, _^_};
 ghost use lib.ListN.{drop};
 ghost use Rattle.operation.specs.Operations.{operationOf, samePaths};
 ghost use Rattle.prefix.specs.Prefix.{scope};
-ghost use Rattle.comparing.specs.Compares.{hashFrom, hash as Compares·hash, baseWord, baseAt, sameBase};
+ghost use Rattle.comparing.specs.Compares.{hashRest, hashFrom, hash as Compares·hash, baseWord, baseAt, sameBase};
 
-// The number made of the bytes from a place on, from a number on.
+// The number of the bytes from a place on, one a turn, from a number on.
 fn hash_rest(s: &[u8], from: usize, start: usize) -> usize
-    requires { ⌜ start < 65536 ⌝ }
-    ensures { λ r. ⌜ (r ≡ hashFrom start (drop from (now (s .entry)))) × (r < 65536) ⌝ }
+    requires { ⌜ start < 2 ^ 32 ⌝ }
+    ensures { λ r. ⌜ (r ≡ hashRest start (drop from (now (s .entry)))) × (r < 2 ^ 32) ⌝ }
 {
     let mut h = start;
     let mut i = from;
     while i < s.len() {
-        h = (h * 31 + wire::wide(s[i])) % 65536;
+        h = (h * 1540483477 + wire::wide(s[i])) % 4294967296;
         i += 1;
     }
     h
 }
 
-// The same for four bytes in one step: 923521 is the fourth power of 31.
-fn hash_four(start: usize, a: u8, b: u8, c: u8, d: u8) -> usize
-    requires { ⌜ start < 65536 ⌝ }
-    ensures { λ r. ⌜ (r ≡ hashFrom start (a ∷ b ∷ c ∷ d ∷ [])) × (r < 65536) ⌝ }
-{
-    let four = (((a as usize) * 31 + (b as usize)) * 31 + (c as usize)) * 31 + (d as usize);
-    (start * 923521 + four) % 65536
-}
-
-// A number under 65536 made of bytes, four a turn.
+// The number of bytes, four a turn: they are one load.
 fn hash_bytes(s: &[u8]) -> usize
-    ensures { λ r. ⌜ (r ≡ hashFrom 0 (now (s .entry))) × (r < 65536) ⌝ }
+    ensures { λ r. ⌜ (r ≡ hashFrom 0 (now (s .entry))) × (r < 2 ^ 32) ⌝ }
 {
     let mut h: usize = 0;
     let mut i = 0;
     while 4 <= s.len() - i {
-        h = hash_four(h, s[i], s[i + 1], s[i + 2], s[i + 3]);
+        h = (h * 1540483477 + wire::four(s, i)) % 4294967296;
         i += 4;
     }
     hash_rest(s, i, h)
@@ -46,10 +36,10 @@ fn hash_bytes(s: &[u8]) -> usize
 
 // The same for names that are the same.
 pub fn hash(op: Shortening, name: &[u8]) -> usize
-    ensures { λ r. ⌜ (r ≡ Compares·hash op (now (name .entry))) × (r < 65536) ⌝ }
+    ensures { λ r. ⌜ (r ≡ Compares·hash op (now (name .entry))) × (r < 2 ^ 32) ⌝ }
 {
     match op {
-        Shortening::Upstream => hash_bytes(name),
+        Shortening::Upstream => hash_bytes(name) * 1831565813 % 4294967296,
     }
 }
 
@@ -78,7 +68,7 @@ pub fn base_word(op: Shortening, card: &[u8], place: u16) -> usize
         return 0;
     }
     let at = place as usize;
-    at + 65536 * hash(op, reader::record_at(card, at))
+    at + 65536 * (hash(op, reader::record_at(card, at)) / 65536)
 }
 
 // Whether a path is the base at a place.

@@ -1,7 +1,7 @@
 -- THE MAPPING: what is collected from a module in the card means the definition's mapping of that module. Assumes nothing.
 use mathlib.Core.Path.{_≡_, refl, ap, sym, subst, _∙_}
 use mathlib.Core.List.{List, [], _++_}
-use Prim.Native.Nat.{ℕ, _+_, _^_, _<_, _≤_}
+use Prim.Native.Nat.{ℕ, _+_, _%_, _^_, _<_, _≤_}
 use native.Mathlib.Omega.{arith}
 use lib.ListN.{length, drop, take, length-append}
 use lib.Seq.{drop-drop}
@@ -76,7 +76,8 @@ module _ (card : Bytes) (at : ℕ) (m : Record) (starts : Starts card at m) (fit
       ap firstRecord (sym (drop-drop (nameAt 0x62 (drop at card)) at card) ∙ n .0 .is) ∙ encode-first (leaf 0x01 (nameOf m)) (n .0 .after) (n .1)
 
 -- adding to a table that means a mapping is adding to the mapping
-tabled-add : (s : Scope) (t : Table) (a : Mapping) (at len base : ℕ) (k : Name) (b : Path) → Canonical b → base < 65536 → take len (drop at (s .card)) ≡ k
+tabled-add : (s : Scope) (t : Table) (a : Mapping) (at len base : ℕ) (k : Name) (b : Path) → Canonical b → base < 65536
+    → take len (drop (at % 65536) (s .card)) ≡ k
     → baseAt s base ≡ encode b → Tabled s t a → Tabled s (added s t at len base) (Add (operationOf (s .op)) a k b)
 tabled-add s t a at len base k b c l e f h =
     record {

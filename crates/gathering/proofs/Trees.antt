@@ -1,17 +1,17 @@
 -- Collecting over the bytes of a module that fits does to any accumulator what the one walk over its records does to a mapping. Assumes nothing.
 use mathlib.Core.Path.{_≡_, refl, ap, sym, subst, _∙_}
-use mathlib.Core.List.{List, [], append-nil}
-use mathlib.Core.Bool.{Bool, true, false, _||_, cond}
+use mathlib.Core.List.{[], _∷_, append-nil}
+use mathlib.Core.Bool.{Bool, true, false, cond}
 use mathlib.Core.Option.{none, some}
-use Prim.Native.Nat.{ℕ, zero, suc, _+_, _-_, _<_, _≤_}
+use Prim.Native.Nat.{ℕ, zero, suc, _+_, _-_, _%_, _<_, _≤_}
 use native.Mathlib.Omega.{arith}
-use lib.ListN.{length, take, drop, length-append, length-drop}
-use lib.Dec.{eqb, ltb}
+use lib.ListN.{length, take, drop, length-take, length-drop}
+use lib.Dec.{eqb}
 use borrow.Author.Tests.{eqb-true, ne-eqb}
 use Rattle.wire.specs.Numbers.{Bytes, sameBytes, between}
 use Rattle.wire.proofs.Within.{within-own}
 use Rattle.records.specs.Record.{Record, Records, leaf, node, nil, _▸_, encode, encodeAll, lengthOf, kindOf, contentOf, restOf, kind, text, nth, field, is}
-use Rattle.records.specs.Record.{deep, deepAll, firstRecord, recordAt}
+use Rattle.records.specs.Record.{deep, deepAll, firstRecord}
 use Rattle.records.specs.Kinds.{Place, kinds, stands, type, expr, mod′, Content, contentAt}
 use Rattle.records.specs.Reading.{short}
 use Rattle.records.specs.Canonical.{Canonical, CanonicalAll}
@@ -20,7 +20,7 @@ use Rattle.records.proofs.Fits.{Fits, FitsAll}
 use Rattle.records.proofs.Run.{within}
 use Rattle.records.proofs.ByRow.{fits-there}
 use Rattle.records.proofs.FitsRead.{Comes, fits-next}
-use Rattle.records.proofs.Front.{encode-inside, encode-kind, encode-content, encode-rest, encode-short}
+use Rattle.records.proofs.Front.{encode-kind, encode-content, encode-rest, encode-short}
 use Rattle.records.proofs.Starts.{Starts, AllStart, starts-there, content-start, first-starts, rest-start}
 use Rattle.rast.specs.Path.{Name, Path, Self, MSel, Selected, whether}
 use Rattle.rast.specs.Operation.{Operation}
@@ -37,10 +37,10 @@ use Rattle.paths.proofs.Bytes.{paths-same}
 use Rattle.prefix.specs.Prefix.{Scope, prefixIn}
 use Rattle.comparing.specs.Compares.{baseAt}
 use Rattle.fields.specs.Fields.{nameAt}
-use Rattle.visiting.specs.Visits.{unfit, visitPath, visitName}
+use Rattle.visiting.specs.Visits.{visitPath, visitName}
 use Rattle.visiting.proofs.Paths.{fit, record-within, p-within, as-within, p-fits}
 use Rattle.visiting.proofs.Own.{own-within}
-use Rattle.gathering.specs.Gathers.{Span, span, spansIn, gatherEach, gatherAs, gatherSelf, gather}
+use Rattle.gathering.specs.Gathers.{span, gatherEach, gatherAs, gatherSelf, gather}
 use Rattle.gathering.proofs.Parts.{encode-first, all-there, spansOf, spans-are}
 use Rattle.gathering.proofs.Names.{Puts, nothing, puts, decl-puts}
 
@@ -78,12 +78,23 @@ span-there {s} {o} {r} p = let e : o + length (encode r) - o ≡ length (encode 
 alone-kind : (r : Record) → Canonical r → kindOf (encode r) ≡ kind r
 alone-kind r h = ap kindOf (sym (append-nil (encode r))) ∙ encode-kind r [] h
 
+-- in a card that is short enough a name stands at the lower half of its place: only an empty one can stand past a half word
+half-place : (card : Bytes) (at : ℕ) (n : Bytes) → length card ≤ 65536 → take (length n) (drop at card) ≡ n → take (length n) (drop (at % 65536) card) ≡ n
+half-place card at [] l e = refl
+half-place card at (x ∷ n) l e =
+    let t = length-take (length (x ∷ n)) (drop at card) in
+    let d = length-drop at card in
+    let g = ap length e in
+    let z : at % 65536 ≡ at = omega arith in
+    rw z e
+
 node-length : (k : ℕ) (c : Records) (from : ℕ) → from + length (encode (node k c)) ≡ from + 6 + length (encodeAll c)
 unfolding encode
 node-length k c from = let l = record-length k (encodeAll c) in omega arith
 
 module _ (s : Scope) {T : Type 0} (add : T → (at len base : ℕ) → T) (R : T → Mapping → Type 0)
-    (keeps : (t : T) (a : Mapping) (at len base : ℕ) (k : Name) (b : Path) → Canonical b → base < 65536 → take len (drop at (s .card)) ≡ k
+    (keeps : (t : T) (a : Mapping) (at len base : ℕ) (k : Name) (b : Path) → Canonical b → base < 65536
+    → take len (drop (at % 65536) (s .card)) ≡ k
     → baseAt s base ≡ encode b → R t a → R (add t at len base) (Add (operationOf (s .op)) a k b))
     (S : Path) (canonical-prefix : Canonical S) (prefix-is : prefixIn s ≡ encode S) (small : length (s .card) ≤ 65536) where
   abbrev Op : Operation
@@ -131,10 +142,10 @@ module _ (s : Scope) {T : Type 0} (add : T → (at len base : ℕ) → T) (R : T
         rw (ne-eqb (from + 6) 0 (λ z. omega arith))
         (record-within card (from + 6) Held (p-within card from To _ Held (sym content-is) (sym held-is)) not-short ∙ first-is)
 
-    put-is : take (length (cond inExpr (bare n) n)) (drop (from + 6 + 10 + lengthOf Held) card) ≡ cond inExpr (bare n) n
+    put-is : take (length (cond inExpr (bare n) n)) (drop ((from + 6 + 10 + lengthOf Held) % 65536) card) ≡ cond inExpr (bare n) n
     put-is =
         let w = as-within card from To _ Held (sym content-is) (sym held-is) inExpr in
-        rw name-is at (within-own card (from + 6 + 10 + lengthOf Held) _ w)
+        half-place card (from + 6 + 10 + lengthOf Held) (cond inExpr (bare n) n) small (rw name-is at (within-own card (from + 6 + 10 + lengthOf Held) _ w))
 
     selects : R t a → R (visitPath add card inExpr t from To) (chosen Op inExpr a b n)
     unfolding Canonical
@@ -168,7 +179,8 @@ module _ (s : Scope) {T : Type 0} (add : T → (at len base : ℕ) → T) (R : T
   name-walks k c from p t a m (puts n h) r =
       let o = nameAt k (encodeAll c) in
       let w = own-within card from (from + length (encodeAll c)) o (encodeAll c) (sym (all-there p)) in
-      let i : take (length n) (drop (from + o + 6) card) ≡ n = rw (h .content) at (within-own card (from + o + 6) _ w) in
+      let i : take (length n) (drop ((from + o + 6) % 65536) card) ≡ n =
+      half-place card (from + o + 6) n small (rw (h .content) at (within-own card (from + o + 6) _ w)) in
       rw (fit card from (from + length (encodeAll c)) small (omega arith), all-there p, h .there, h .within, h .content)
       (keeps t a (from + o + 6) (length n) 0 n S canonical-prefix (omega arith) i prefix-is r)
 

@@ -107,7 +107,7 @@ module _ (s : Scope) (words : List ℕ) where
         let w : ℕ = placeIn (wordAt words (usePair s words (suc i) - 1)) in
         let n : Bytes = nameAt (s .card) words i in
         let l = use-length n (recordAt (s .card) w) in
-        let p = part-length (s .card) (getD words (4 * i + 1) 0) (getD words (4 * i) 0) in
+        let p = part-length (s .card) (getD words (4 * i + 1) 0) (getD words (4 * i) 0 % 65536) in
         let q = part-length (s .card) (4 + lengthOf (drop w (s .card))) w in
         rw (base-card (suc i) (usePair s words (suc i)) b) (omega arith)
 
@@ -143,10 +143,10 @@ module _ (s : Scope) (words : List ℕ) where
       one-room = let b = one-brings in let f = b .inside in let g = b .chosen in (omega arith, omega (arith, z), omega arith)
 
       module _ (from len w : ℕ) (name base : Bytes) (f : from ≡ getD words (4 * i) 0) (g : len ≡ getD words (4 * i + 1) 0)
-          (n : name ≡ take len (drop from (s .card))) (h : w ≡ getD words (4 * (c - 1) + 2) 0) (b : base ≡ recordAt (s .card) (w % 65536)) where
+          (n : name ≡ take len (drop (from % 65536) (s .card))) (h : w ≡ getD words (4 * (c - 1) + 2) 0) (b : base ≡ recordAt (s .card) (w % 65536)) where
         pub one-fits : length (s .card) ≤ 65536 → (length name ≤ 65536) × (length base ≤ 65536)
         one-fits l =
-            let p = part-length (s .card) len from in
+            let p = part-length (s .card) len (from % 65536) in
             let q = part-length (s .card) (4 + lengthOf (drop (w % 65536) (s .card))) (w % 65536) in
             (rw n (omega arith), rw b (omega arith))
 

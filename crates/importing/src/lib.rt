@@ -59,7 +59,7 @@ fn write_use_of(
     }
     let k = 4 * i;
     let m = 4 * (c - 1) + 2;
-    let name = wire::part(card, wire::word(work[k]), wire::word(work[k + 1]));
+    let name = wire::part(card, wire::word(work[k]) % 65536, wire::word(work[k + 1]));
     let base = reader::record_at(card, wire::word(work[m]) % 65536);
     write_use(name, base, out, at)
 }

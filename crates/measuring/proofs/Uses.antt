@@ -2,7 +2,7 @@
 use mathlib.Core.Path.{_≡_, ap, sym, _∙_}
 use mathlib.Core.Bool.{true}
 use mathlib.Core.List.{List, [], _∷_}
-use Prim.Native.Nat.{ℕ, zero, suc, _+_, _*_, _≤_}
+use Prim.Native.Nat.{ℕ, zero, suc, _+_, _*_, _%_, _≤_}
 use native.Mathlib.Omega.{arith}
 use lib.ListN.{length, take, drop, getD, length-take}
 use lib.Seq.{length-take-le}
@@ -70,7 +70,7 @@ module _ (S : Path) where
     unfolding size
     path-size i n b e f =
         let u = use-most S n b in
-        let x = length-take (getD words (4 * i + 1) 0) (drop (getD words (4 * i) 0) (s .card)) in
+        let x = length-take (getD words (4 * i + 1) 0) (drop (getD words (4 * i) 0 % 65536) (s .card)) in
         let y = length-take (4 + lengthOf (drop (placeIn (wordAt words i)) (s .card))) (drop (placeIn (wordAt words i)) (s .card)) in
         omega arith
 

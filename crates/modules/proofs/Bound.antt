@@ -2,7 +2,7 @@
 use mathlib.Core.Path.{_≡_}
 use mathlib.Core.Bool.{Bool, true, false, _||_, _&&_, false≢true, true≢false}
 use mathlib.Core.List.{List, [], _∷_, _++_}
-use Prim.Native.Nat.{ℕ, zero, suc, _+_, _*_, _-_, _^_, _≤_}
+use Prim.Native.Nat.{ℕ, zero, suc, _+_, _*_, _-_, _%_, _^_, _≤_}
 use native.Mathlib.Nat.{mul-le-mul-left}
 use native.Mathlib.Omega.{arith}
 use lib.ListN.{length, take, drop, getD, length-append, length-take, length-drop}
@@ -103,7 +103,7 @@ module _ (s : Scope) (words : List ℕ) (small : length (s .card) ≤ 65536) whe
   unfolding Brought
   one-more i n us t rest =
       let a = use-fits s words (suc i) t in
-      let b = part-fits (getD words (4 * i + 1) 0) (getD words (4 * i) 0) (s .card) in
+      let b = part-fits (getD words (4 * i + 1) 0) (getD words (4 * i) 0 % 65536) (s .card) in
       let c = use-length (Use i) in
       let d = length-append (useBytes (Use i)) (usesBytes us) in
       omega arith

@@ -18,7 +18,7 @@ use Rattle.prefix.specs.Prefix.{Scope, prefixIn}
 use Rattle.comparing.specs.Compares.{placeIn, tagIn, baseAt, sameBase}
 use Rattle.chains.specs.declared.Want.{Want}
 use Rattle.chains.specs.declared.Want.the-variants.{Based, Runtime}
-use Rattle.chains.specs.Chains.{room, nameAt, wordAt, nextOf, hasWanted, isWanted, seekFrom, seek}
+use Rattle.chains.specs.Chains.{room, nameAt, numberAt, numberOf, wordAt, nextOf, hasWanted, hasNamed, isWanted, seekFrom, seek}
 use Rattle.choosing.specs.Chooses.{chosenOfSeveral, chosenPair}
 use Rattle.rewriting.specs.Replaces.{replaces}
 
@@ -60,8 +60,10 @@ module _ (s : Scope) (words : List ℕ) (name base : Bytes) where
   Base i = baseAt s (placeIn (wordAt words i))
 
   wanted : (want : Want) (i : ℕ) → isWanted s words name want i ≡ true → hasWanted s want (wordAt words i) ≡ true
-  unfolding isWanted
-  wanted want i e = and-eq-true-iff (operationOf (s .op) .sameName (nameAt (s .card) words i) name) (hasWanted s want (wordAt words i)) .0 e .1
+  unfolding isWanted hasNamed
+  wanted want i e =
+      and-eq-true-iff (operationOf (s .op) .sameName (nameAt (s .card) words i) name) (hasWanted s want (wordAt words i)) .0
+      (and-eq-true-iff (eqb (numberAt words i) (numberOf (s .op) name)) (hasNamed s words name want i) .0 e .1) .1
 
   base-none : baseAt s 0 ≡ prefixIn s
   unfolding baseAt
@@ -71,7 +73,8 @@ module _ (s : Scope) (words : List ℕ) (name base : Bytes) where
   unfolding hasWanted sameBase
   prefix-base i e =
       let w = wordAt words i in
-      ap (samePaths (s .op) (Base i)) (sym base-none) ∙ either-way (eqb (placeIn w) 0) (eqb (tagIn w) 0) (samePaths (s .op) (Base i) (baseAt s 0)) (wanted (Based 0) i e)
+      ap (samePaths (s .op) (Base i)) (sym base-none) ∙ either-way (eqb (placeIn w) 0) (eqb (tagIn w) 0) (samePaths (s .op) (Base i) (baseAt s 0))
+      (wanted (Based 0) i e)
 
   runtime-base : (i : ℕ) → isWanted s words name Runtime i ≡ true → samePaths (s .op) (Base i) (encode «dafny_runtime») ≡ true
   unfolding hasWanted baseAt

@@ -32,7 +32,7 @@ fn word_of(work: &[u32], g: usize, i: usize) -> usize
 }
 
 fn name_of<'a>(card: &'a [u8], work: &[u32], g: usize) -> &'a [u8] {
-    wire::part(card, word_of(work, g, 0), word_of(work, g, 1))
+    wire::part(card, word_of(work, g, 0) % 65536, word_of(work, g, 1))
 }
 
 // The base of pair g: the module's prefix, ::dafny_runtime, or a path's bytes. The lower half of its word is the path's place, 0 for the prefix.

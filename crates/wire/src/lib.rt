@@ -12,7 +12,7 @@ pub fn wide(b: u8) -> usize
 }
 
 // Four bytes of s as a number, the lowest first.
-fn four(s: &[u8], at: usize) -> usize
+pub fn four(s: &[u8], at: usize) -> usize
     requires { do ⌜ at + 4 ≤ (← ⟦s.len()⟧) ⌝ }
     ensures { λ r. ⌜ (r ≡ num (take 4 (drop at (now (s .entry))))) × (r < 2 ^ 32) ⌝ }
 {

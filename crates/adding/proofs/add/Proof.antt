@@ -1,7 +1,7 @@
 -- `adding::add` meets its contract, case by case. Assumes nothing.
 use Rattle.prefix.specs.Prefix.{scope}
-use borrow.Author.Needs.{needs}
 use Rattle.adding.proofs.Tests.{add-full, add-old, add-past, add-room, add-new}
+use borrow.Author.Needs.{needs}
 use Rattle.adding.proofs.add.Statement.{statement}
 use Rattle.adding.proofs.add.Tie as tie
 use Rattle.adding.proofs.add.Reads as reads
@@ -12,6 +12,7 @@ use Rattle.chains.proofs.head.Reads as head-reads
 use Rattle.chains.proofs.room.Reads as room-reads
 use Rattle.chains.proofs.seek.Reads as seek-reads
 use Rattle.comparing.proofs.base_word.Reads as base-word-reads
+use Rattle.comparing.proofs.hash.Reads as hash-reads
 use Rattle.wire.proofs.part.Reads as part-reads
 use Rattle.wire.proofs.word.Reads as word-reads
 
@@ -55,8 +56,8 @@ same-length-2 c = search needs
 
 returns-2 : tie.Need-returns-2
 returns-2 c =
-    let back = c .before .before .before .before .before .before .before .before .before .before .before .before .before .before .before in
-    let args = back .before .before .before .args in
+    let args = c .before .before .before .before .before .before .before .before .before .before .before .before .before .before .before .before .before
+    .before .args in
     let room = c .before .before .before .before .before .before .before .before .before .before .before .before .room in
     let if1 = c .before .before .before .before .before .before .before .before .before .before .before .if1 in
     let word = c .before .before .before .before .before .before .before .before .before .before .word in
@@ -79,8 +80,8 @@ same-length-3 c = search needs
 
 returns-3 : tie.Need-returns-3
 returns-3 c =
-    let back = c .before .before .before .before .before .before .before .before .before .before .before .before .before .before .before in
-    let args = back .before .before .before .before .args in
+    let args = c .before .before .before .before .before .before .before .before .before .before .before .before .before .before .before .before .before
+    .before .before .args in
     let room = c .before .before .before .before .before .before .before .before .before .before .before .before .before .room in
     let if1 = c .before .before .before .before .before .before .before .before .before .before .before .before .if1 in
     let word = c .before .before .before .before .before .before .before .before .before .before .before .word in
@@ -96,24 +97,36 @@ returns-3 c =
     (room .ensures) (if1 .left) _ _ (word .ensures .0) (word2 .ensures .0) _ (part .ensures) _ _ _ _ (bucket .ensures)
     (base-word .ensures .0) (head .ensures .0) (seek .ensures) (if2 .left) (if3 .taken)
 
+hash-requires : tie.Need-hash-requires
+hash-requires c κs = search needs
+
+mul-named : tie.Need-mul-named
+mul-named c = search needs
+
+add-named : tie.Need-add-named
+add-named c = search needs
+
 cast-put : tie.Need-cast-put
 cast-put c = search needs
 
+cast-put-2 : tie.Need-cast-put-2
+cast-put-2 c = search needs
+
 put-requires : tie.Need-put-requires
 put-requires c κs =
-    let back = c .before .before .before .before .before .before .before .before .before .before .before .before .before .before .before in
-    let args = back .before .before .before .before .before .args in
-    let room = c .before .before .before .before .before .before .before .before .before .before .before .before .before .before .room in
-    let if1 = c .before .before .before .before .before .before .before .before .before .before .before .before .before .if1 in
-    let word = c .before .before .before .before .before .before .before .before .before .before .before .before .word in
-    let word2 = c .before .before .before .before .before .before .before .before .before .before .before .word2 in
-    let part = c .before .before .before .before .before .before .before .before .before .before .part in
-    let bucket = c .before .before .before .before .before .before .before .before .bucket in
-    let base-word = c .before .before .before .before .before .before .before .base-word in
-    let head = c .before .before .before .before .before .head in
-    let seek = c .before .before .before .seek in
-    let if2 = c .before .before .if2 in
-    let if3 = c .before .if3 in
+    let args = c .before .before .before .before .before .before .before .before .before .before .before .before .before .before .before .before .before
+    .before .before .before .before .args in
+    let room = c .before .before .before .before .before .before .before .before .before .before .before .before .before .before .before .room in
+    let if1 = c .before .before .before .before .before .before .before .before .before .before .before .before .before .before .if1 in
+    let word = c .before .before .before .before .before .before .before .before .before .before .before .before .before .word in
+    let word2 = c .before .before .before .before .before .before .before .before .before .before .before .before .word2 in
+    let part = c .before .before .before .before .before .before .before .before .before .before .before .part in
+    let bucket = c .before .before .before .before .before .before .before .before .before .bucket in
+    let base-word = c .before .before .before .before .before .before .before .before .base-word in
+    let head = c .before .before .before .before .before .before .head in
+    let seek = c .before .before .before .before .seek in
+    let if2 = c .before .before .before .if2 in
+    let if3 = c .before .before .if3 in
     add-room (scope (args .op) (args .card .now) (args .root .now) (args .chain .now)) (args .work .now) (args .n) (args .at) (args .len) (args .base) _
     (room .ensures) (if1 .left) _ _ (word .ensures .0) (word2 .ensures .0) _ (part .ensures) _ _ _ _ (bucket .ensures)
     (base-word .ensures .0) (head .ensures .0) (seek .ensures) (if2 .left) (if3 .left)
@@ -126,23 +139,25 @@ same-length-4 c = search needs
 
 returns-4 : tie.Need-returns-4
 returns-4 c =
-    let back = c .before .before .before .before .before .before .before .before .before .before .before .before .before .before .before in
-    let args = back .before .before .before .before .before .before .before .before .args in
-    let room = back .before .before .room in
-    let if1 = c .before .before .before .before .before .before .before .before .before .before .before .before .before .before .before .before .if1 in
-    let word = c .before .before .before .before .before .before .before .before .before .before .before .before .before .before .before .word in
-    let word2 = c .before .before .before .before .before .before .before .before .before .before .before .before .before .before .word2 in
-    let part = c .before .before .before .before .before .before .before .before .before .before .before .before .before .part in
-    let bucket = c .before .before .before .before .before .before .before .before .before .before .before .bucket in
-    let base-word = c .before .before .before .before .before .before .before .before .before .before .base-word in
-    let head = c .before .before .before .before .before .before .before .before .head in
-    let seek = c .before .before .before .before .before .before .seek in
-    let if2 = c .before .before .before .before .before .if2 in
-    let if3 = c .before .before .before .before .if3 in
+    let args = c .before .before .before .before .before .before .before .before .before .before .before .before .before .before .before .before .before
+    .before .before .before .before .before .before .before .args in
+    let room = c .before .before .before .before .before .before .before .before .before .before .before .before .before .before .before .before .before
+    .before .room in
+    let if1 = c .before .before .before .before .before .before .before .before .before .before .before .before .before .before .before .before .before .if1 in
+    let word = c .before .before .before .before .before .before .before .before .before .before .before .before .before .before .before .before .word in
+    let word2 = c .before .before .before .before .before .before .before .before .before .before .before .before .before .before .before .word2 in
+    let part = c .before .before .before .before .before .before .before .before .before .before .before .before .before .before .part in
+    let bucket = c .before .before .before .before .before .before .before .before .before .before .before .before .bucket in
+    let base-word = c .before .before .before .before .before .before .before .before .before .before .before .base-word in
+    let head = c .before .before .before .before .before .before .before .before .before .head in
+    let seek = c .before .before .before .before .before .before .before .seek in
+    let if2 = c .before .before .before .before .before .before .if2 in
+    let if3 = c .before .before .before .before .before .if3 in
+    let hash = c .before .before .before .before .hash in
     let put = c .before .before .put in
     add-new (scope (args .op) (args .card .now) (args .root .now) (args .chain .now)) (args .work .now) (args .n) (args .at) (args .len) (args .base) _
     (room .ensures) (if1 .left) _ _ (word .ensures .0) (word2 .ensures .0) _ (part .ensures) _ _ _ _ (bucket .ensures)
-    (base-word .ensures .0) (head .ensures .0) (seek .ensures) (if2 .left) (if3 .left) _ (put .ensures)
+    (base-word .ensures .0) (head .ensures .0) (seek .ensures) (if2 .left) (if3 .left) _ (hash .ensures .0) _ (put .ensures)
 
 pub add-spec : {M : Type 1} → statement M
 add-spec =
@@ -163,7 +178,11 @@ add-spec =
     add-result
     same-length-3
     returns-3
+    hash-requires
+    mul-named
+    add-named
     cast-put
+    cast-put-2
     put-requires
     add-result-2
     same-length-4

@@ -1,6 +1,6 @@
 -- `adding::put_again` meets its contract. Assumes nothing.
-use borrow.Author.Needs.{needs}
 use Rattle.adding.proofs.Again.{again-inside, again-is}
+use borrow.Author.Needs.{needs}
 use Rattle.adding.proofs.put_again.Statement.{statement}
 use Rattle.adding.proofs.put_again.Tie as tie
 use Rattle.adding.proofs.put_again.Reads as reads
@@ -56,8 +56,8 @@ put-requires c κs =
     let word2 = c .before .before .before .before .word2 in
     let part = c .before .before .before .part in
     let bucket = c .before .bucket in
-    again-inside (args .op) (args .card .now) (args .work .now) (args .i) _ _ (word .ensures .0) (word2 .ensures .0) _ (part .ensures) _ (bucket .ensures)
-    (c .before .before .before .before .before .before .before .before .before .before .before .pre)
+    let pre = c .before .before .before .before .before .before .before .before .before .before .before .pre in
+    again-inside (args .op) (args .card .now) (args .work .now) (args .i) _ _ (word .ensures .0) (word2 .ensures .0) _ (part .ensures) _ (bucket .ensures) pre
 
 same-length : tie.Need-same-length
 same-length c = search needs

@@ -1,6 +1,6 @@
--- `chains::is_wanted` meets its contract: the number of the base, the name, then the base. Assumes nothing.
+-- `chains::is_wanted` meets its contract: the number of the base, that of the name, the name, then the base. Assumes nothing.
 use Rattle.prefix.specs.Prefix.{scope}
-use Rattle.chains.proofs.Tests.{wanted-passed, wanted-other, wanted-same}
+use Rattle.chains.proofs.Tests.{wanted-passed, wanted-number, wanted-other, wanted-same}
 use borrow.Author.Needs.{needs}
 use Rattle.chains.proofs.is_wanted.Statement.{statement}
 use Rattle.chains.proofs.is_wanted.Tie as tie
@@ -51,6 +51,15 @@ shared-slice-read-word-2 c = search needs
 word-requires-2 : tie.Need-word-requires-2
 word-requires-2 c κs = search needs
 
+returns-2 : tie.Need-returns-2
+returns-2 c =
+    let args = c .before .before .before .before .before .before .before .before .before .before .before .before .args in
+    let word2 = c .before .word2 in
+    let pre = c .before .before .before .before .before .before .before .before .before .before .before .before .pre in
+    let if2 = c .if2 in
+    wanted-number (scope (args .op) (args .card .now) (args .root .now) (args .chain .now)) (args .work .now) (args .name .now) (args .want) _ _
+    (word2 .ensures .0) _ (pre .2) (if2 .taken)
+
 add-word-2 : tie.Need-add-word-2
 add-word-2 c = search needs
 
@@ -69,33 +78,40 @@ part-requires c κs = search needs
 same-name-requires : tie.Need-same-name-requires
 same-name-requires c κs = search needs
 
-returns-2 : tie.Need-returns-2
-returns-2 c =
-    let args = c .before .before .before .before .before .before .before .before .before .before .before .before .before .before .before .before .args in
-    let word2 = c .before .before .before .before .before .word2 in
-    let word3 = c .before .before .before .word3 in
-    let part = c .before .before .part in
-    let same-name = c .before .same-name in
-    let if2 = c .if2 in
-    wanted-other (scope (args .op) (args .card .now) (args .root .now) (args .chain .now)) (args .work .now) (args .name .now) (args .want) _ _ _ _ _
-    (word2 .ensures .0) (word3 .ensures .0) (part .ensures) (same-name .ensures) (if2 .taken)
-
-has-wanted-requires : tie.Need-has-wanted-requires
-has-wanted-requires c κs = search needs
-
 returns-3 : tie.Need-returns-3
 returns-3 c =
     let args = c .before .before .before .before .before .before .before .before .before .before .before .before .before .before .before .before .before
     .args in
     let word2 = c .before .before .before .before .before .before .word2 in
+    let pre = c .before .before .before .before .before .before .before .before .before .before .before .before .before .before .before .before .before .pre in
+    let if2 = c .before .before .before .before .before .if2 in
+    let word3 = c .before .before .before .word3 in
+    let part = c .before .before .part in
+    let same-name = c .before .same-name in
+    let if3 = c .if3 in
+    wanted-other (scope (args .op) (args .card .now) (args .root .now) (args .chain .now)) (args .work .now) (args .name .now) (args .want) _ _
+    (word2 .ensures .0) _ (pre .2) (if2 .left) _ _ _ (word3 .ensures .0) (part .ensures) (same-name .ensures) (if3 .taken)
+
+has-wanted-requires : tie.Need-has-wanted-requires
+has-wanted-requires c κs = search needs
+
+returns-4 : tie.Need-returns-4
+returns-4 c =
+    let args = c .before .before .before .before .before .before .before .before .before .before .before .before .before .before .before .before .before
+    .before .args in
+    let word2 = c .before .before .before .before .before .before .before .word2 in
+    let pre = c .before .before .before .before .before .before .before .before .before .before .before .before .before .before .before .before .before
+    .before .pre in
+    let if2 = c .before .before .before .before .before .before .if2 in
     let word3 = c .before .before .before .before .word3 in
     let part = c .before .before .before .part in
     let same-name = c .before .before .same-name in
-    let if2 = c .before .if2 in
-    let word = c .before .before .before .before .before .before .before .before .before .before .word in
+    let if3 = c .before .if3 in
+    let word = c .before .before .before .before .before .before .before .before .before .before .before .word in
     let has-wanted = c .has-wanted in
-    wanted-same (scope (args .op) (args .card .now) (args .root .now) (args .chain .now)) (args .work .now) (args .name .now) (args .want) _ _ _ _ _
-    (word2 .ensures .0) (word3 .ensures .0) (part .ensures) (same-name .ensures) (if2 .left) _ _ (word .ensures .0) (has-wanted .ensures)
+    wanted-same (scope (args .op) (args .card .now) (args .root .now) (args .chain .now)) (args .work .now) (args .name .now) (args .want) _ _
+    (word2 .ensures .0) _ (pre .2) (if2 .left) _ _ _ (word3 .ensures .0) (part .ensures) (same-name .ensures) (if3 .left) _ _ (word .ensures .0)
+    (has-wanted .ensures)
 
 pub is-wanted-spec : {M : Type 1} → statement M
 is-wanted-spec =
@@ -112,12 +128,13 @@ is-wanted-spec =
     mul-word-2
     shared-slice-read-word-2
     word-requires-2
+    returns-2
     add-word-2
     mul-word-3
     shared-slice-read-word-3
     word-requires-3
     part-requires
     same-name-requires
-    returns-2
+    returns-3
     has-wanted-requires
-    returns-3)
+    returns-4)

@@ -3,8 +3,8 @@ use mathlib.Core.Path.{_≡_}
 use native.Mathlib.Omega.{arith}
 use borrow.Author.Needs.{needs}
 use Rattle.prefix.specs.Prefix.{scope}
-use Rattle.chains.specs.Chains.{isWanted}
-use Rattle.chains.proofs.Tests.{Seeking, seek-past, seek-start, seek-none, seek-found, seek-next, next-less}
+use Rattle.chains.specs.Chains.{numberOf, isWanted}
+use Rattle.chains.proofs.Tests.{Seeking, seek-past, seek-zero, seek-start, seek-none, seek-found, seek-next, next-less}
 use Rattle.chains.proofs.seek.Statement.{statement}
 use Rattle.chains.proofs.seek.Tie as tie
 use Rattle.chains.proofs.seek.Reads as reads
@@ -12,12 +12,14 @@ use Rattle.chains.proofs.seek.Lts as lts
 use Rattle.chains.proofs.is_wanted.Reads as is-wanted-reads
 use Rattle.chains.proofs.next.Reads as next-reads
 use Rattle.chains.proofs.room.Reads as room-reads
+use Rattle.comparing.proofs.hash.Reads as hash-reads
 
 abbrev Inv-loop : tie.InvT-loop
-Inv-loop op card root chain work from name want g₀ g = Seeking (isWanted (scope op card root chain) work name want) work from g
+Inv-loop op card root chain work from name want number g₀ g =
+    Seeking (isWanted (scope op card root chain) work name want) work from g × (number ≡ numberOf op name)
 
 abbrev μ-loop : tie.MeasureT-loop
-μ-loop op card root chain work from name want g₀ g = g
+μ-loop op card root chain work from name want number g₀ g = g
 
 room-requires : tie.Need-room-requires Inv-loop μ-loop
 room-requires c κs = search needs
@@ -30,36 +32,49 @@ returns c =
     seek-past (isWanted (scope (args .op) (args .card .now) (args .root .now) (args .chain .now)) (args .work .now) (args .name .now) (args .want))
     (args .work .now) (args .from) _ (room .ensures) (if1 .taken)
 
+returns-2 : tie.Need-returns-2 Inv-loop μ-loop
+returns-2 c =
+    let args = c .before .before .before .before .before .before .before .before .args in
+    let if2 = c .if2 in
+    seek-zero (isWanted (scope (args .op) (args .card .now) (args .root .now) (args .chain .now)) (args .work .now) (args .name .now) (args .want))
+    (args .work .now) (args .from) (if2 .taken)
+
+hash-requires : tie.Need-hash-requires Inv-loop μ-loop
+hash-requires c κs = search needs
+
 loop-holds : tie.Need-loop-holds Inv-loop μ-loop
 loop-holds c =
-    let args = c .before .before .before .before .before .before .before .args in
-    let room = c .before .room in
-    let if1 = c .if1 in
-    seek-start (isWanted (scope (args .op) (args .card .now) (args .root .now) (args .chain .now)) (args .work .now) (args .name .now) (args .want))
-    (args .work .now) (args .from) _ (room .ensures) (if1 .left)
+    let args = c .before .before .before .before .before .before .before .before .before .args in
+    let room = c .before .before .before .room in
+    let if1 = c .before .before .if1 in
+    let hash = c .hash in (
+      seek-start (isWanted (scope (args .op) (args .card .now) (args .root .now) (args .chain .now)) (args .work .now) (args .name .now) (args .want))
+          (args .work .now) (args .from) _ (room .ensures) (if1 .left),
+      rw (hash .ensures .0),
+    )
 
 is-wanted-requires : tie.Need-is-wanted-requires Inv-loop μ-loop
 is-wanted-requires c κs =
     let loop-test = c .loop-test in
     let loop = c .before .loop in
-    (loop-test .taken, loop .inv .inside)
+    (loop-test .taken, loop .inv .0 .inside, loop .inv .1)
 
-returns-2 : tie.Need-returns-2 Inv-loop μ-loop
-returns-2 c =
-    let args = c .before .before .before .before .before .before .before .before .before .before .before .args in
+returns-3 : tie.Need-returns-3 Inv-loop μ-loop
+returns-3 c =
+    let args = c .before .before .before .before .before .before .before .before .before .before .before .before .before .args in
     let loop = c .before .before .before .loop in
     let loop-test = c .before .before .loop-test in
     let is-wanted = c .before .is-wanted in
-    let if2 = c .if2 in
+    let if3 = c .if3 in
     seek-found (isWanted (scope (args .op) (args .card .now) (args .root .now) (args .chain .now)) (args .work .now) (args .name .now) (args .want))
-    (args .work .now) (args .from) _ (loop .inv) (loop-test .taken) _ (is-wanted .ensures) (if2 .taken)
+    (args .work .now) (args .from) _ (loop .inv .0) (loop-test .taken) _ (is-wanted .ensures) (if3 .taken)
 
 next-requires : tie.Need-next-requires Inv-loop μ-loop
 next-requires c κs = search needs
 
 loop-less : tie.Need-loop-less Inv-loop μ-loop
 loop-less c =
-    let args = c .before .before .before .before .before .before .before .before .before .before .before .before .args in
+    let args = c .before .before .before .before .before .before .before .before .before .before .before .before .before .before .args in
     let loop = c .before .before .before .before .loop in
     let loop-test = c .before .before .before .loop-test in
     let next = c .next in
@@ -67,22 +82,24 @@ loop-less c =
 
 loop-again : tie.Need-loop-again Inv-loop μ-loop
 loop-again c =
-    let args = c .before .before .before .before .before .before .before .before .before .before .before .before .args in
+    let args = c .before .before .before .before .before .before .before .before .before .before .before .before .before .before .args in
     let loop = c .before .before .before .before .loop in
     let loop-test = c .before .before .before .loop-test in
     let is-wanted = c .before .before .is-wanted in
-    let if2 = c .before .if2 in
-    let next = c .next in
-    seek-next (isWanted (scope (args .op) (args .card .now) (args .root .now) (args .chain .now)) (args .work .now) (args .name .now) (args .want))
-    (args .work .now) (args .from) _ (loop .inv) (loop-test .taken) _ (is-wanted .ensures) (if2 .left) _ (next .ensures)
+    let if3 = c .before .if3 in
+    let next = c .next in (
+      seek-next (isWanted (scope (args .op) (args .card .now) (args .root .now) (args .chain .now)) (args .work .now) (args .name .now) (args .want))
+          (args .work .now) (args .from) _ (loop .inv .0) (loop-test .taken) _ (is-wanted .ensures) (if3 .left) _ (next .ensures),
+      loop .inv .1,
+    )
 
-returns-3 : tie.Need-returns-3 Inv-loop μ-loop
-returns-3 c =
-    let args = c .before .before .before .before .before .before .before .before .before .args in
+returns-4 : tie.Need-returns-4 Inv-loop μ-loop
+returns-4 c =
+    let args = c .before .before .before .before .before .before .before .before .before .before .before .args in
     let loop = c .before .loop in
     let loop-test = c .loop-test in
     seek-none (isWanted (scope (args .op) (args .card .now) (args .root .now) (args .chain .now)) (args .work .now) (args .name .now) (args .want))
-    (args .work .now) (args .from) _ (loop .inv) (loop-test .left)
+    (args .work .now) (args .from) _ (loop .inv .0) (loop-test .left)
 
 pub seek-spec : {M : Type 1} → statement M
 seek-spec =
@@ -92,10 +109,12 @@ seek-spec =
     μ-loop
     room-requires
     returns
+    returns-2
+    hash-requires
     loop-holds
     is-wanted-requires
-    returns-2
+    returns-3
     next-requires
     loop-less
     loop-again
-    returns-3)
+    returns-4)

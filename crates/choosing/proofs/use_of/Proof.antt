@@ -1,8 +1,8 @@
 -- `choosing::use_of` meets its contract. What is chosen is a pair that there is room for, so its base is one of the words. Assumes nothing.
 use native.Mathlib.Omega.{arith}
-use borrow.Author.Needs.{needs}
 use Rattle.prefix.specs.Prefix.{scope}
-use Rattle.choosing.proofs.Tests.{chosen-room, use-zero, use-past, use-later, use-none, use-prefix, use-is}
+use Rattle.choosing.proofs.Tests.{chosen-room, use-zero, use-past, none-after, use-later, use-none, use-prefix, use-is}
+use borrow.Author.Needs.{needs}
 use Rattle.choosing.proofs.use_of.Statement.{statement}
 use Rattle.choosing.proofs.use_of.Tie as tie
 use Rattle.choosing.proofs.use_of.Reads as reads
@@ -10,7 +10,7 @@ use Rattle.choosing.proofs.use_of.Lts as lts
 use Rattle.chains.proofs.next.Reads as next-reads
 use Rattle.chains.proofs.room.Reads as room-reads
 use Rattle.chains.proofs.seek.Reads as seek-reads
-use Rattle.choosing.proofs.chosen.Reads as chosen-reads
+use Rattle.choosing.proofs.chosen_after.Reads as chosen-after-reads
 use Rattle.comparing.proofs.same_base.Reads as same-base-reads
 use Rattle.wire.proofs.part.Reads as part-reads
 use Rattle.wire.proofs.word.Reads as word-reads
@@ -84,13 +84,25 @@ returns-3 c =
     use-later (scope (args .op) (args .card .now) (args .root .now) (args .chain .now)) (args .work .now) _ (if1 .left) _ (room .ensures)
     (if2 .left) _ _ _ (word .ensures .0) (word2 .ensures .0) (part .ensures) _ _ (next .ensures) (seek .ensures) (if3 .taken)
 
-chosen-requires : tie.Need-chosen-requires
-chosen-requires c κs = search needs
+chosen-after-requires : tie.Need-chosen-after-requires
+chosen-after-requires c κs =
+    let args = c .before .before .before .before .before .before .before .before .before .before .before .before .before .before .before .args in
+    let if1 = c .before .before .before .before .before .before .before .before .before .before .if1 in
+    let room = c .before .before .before .before .before .before .before .before .before .room in
+    let if2 = c .before .before .before .before .before .before .before .before .if2 in
+    let word = c .before .before .before .before .before .before .word in
+    let word2 = c .before .before .before .before .word2 in
+    let part = c .before .before .before .part in
+    let next = c .before .before .next in
+    let seek = c .before .seek in
+    let if3 = c .if3 in
+    none-after (scope (args .op) (args .card .now) (args .root .now) (args .chain .now)) (args .work .now) _ (if1 .left) _ (room .ensures)
+    (if2 .left) _ _ _ (word .ensures .0) (word2 .ensures .0) (part .ensures) _ _ (next .ensures) (seek .ensures) (if3 .left)
 
 returns-4 : tie.Need-returns-4
 returns-4 c =
-    let args = c .before .before .before .before .before .before .before .before .before .before .before .before
-    .before .before .before .before .before .args in
+    let args = c .before .before .before .before .before .before .before .before .before .before .before .before .before .before .before .before .before
+    .args in
     let if1 = c .before .before .before .before .before .before .before .before .before .before .before .before .if1 in
     let room = c .before .before .before .before .before .before .before .before .before .before .before .room in
     let if2 = c .before .before .before .before .before .before .before .before .before .before .if2 in
@@ -100,46 +112,56 @@ returns-4 c =
     let next = c .before .before .before .before .next in
     let seek = c .before .before .before .seek in
     let if3 = c .before .before .if3 in
-    let chosen = c .before .chosen in
+    let chosen-after = c .before .chosen-after in
     let if4 = c .if4 in
     use-none (scope (args .op) (args .card .now) (args .root .now) (args .chain .now)) (args .work .now) _ (if1 .left) _ (room .ensures)
     (if2 .left) _ _ _ (word .ensures .0) (word2 .ensures .0) (part .ensures) _ _ (next .ensures) (seek .ensures) (if3 .left) _
-    (chosen .ensures) (if4 .taken)
+    (chosen-after .ensures) (if4 .taken)
 
 sub-m : tie.Need-sub-m
-sub-m c = search needs
+sub-m c =
+    let args = c .before .before .before .before .before .before .before .before .before .before .before .before .before .before .before .before .before
+    .args in
+    let chosen-after = c .before .chosen-after in
+    let if4 = c .if4 in
+    let m = chosen-room (scope (args .op) (args .card .now) (args .root .now) (args .chain .now)) (args .work .now) _ _ (chosen-after .ensures) in
+    omega (arith, if4 .left)
 
 mul-m : tie.Need-mul-m
 mul-m c =
-    let args = c .before .before .before .before .before .before .before .before .before .before .before .before
-    .before .before .before .before .before .args in
-    let chosen = c .before .chosen in
-    let i = chosen-room (scope (args .op) (args .card .now) (args .root .now) (args .chain .now)) (args .work .now) _ _ (chosen .ensures) in
-    omega arith
+    let args = c .before .before .before .before .before .before .before .before .before .before .before .before .before .before .before .before .before
+    .args in
+    let chosen-after = c .before .chosen-after in
+    let if4 = c .if4 in
+    let m = chosen-room (scope (args .op) (args .card .now) (args .root .now) (args .chain .now)) (args .work .now) _ _ (chosen-after .ensures) in
+    omega (arith, if4 .left)
 
 add-m : tie.Need-add-m
 add-m c =
-    let args = c .before .before .before .before .before .before .before .before .before .before .before .before
-    .before .before .before .before .before .args in
-    let chosen = c .before .chosen in
-    let i = chosen-room (scope (args .op) (args .card .now) (args .root .now) (args .chain .now)) (args .work .now) _ _ (chosen .ensures) in
-    omega arith
+    let args = c .before .before .before .before .before .before .before .before .before .before .before .before .before .before .before .before .before
+    .args in
+    let chosen-after = c .before .chosen-after in
+    let if4 = c .if4 in
+    let m = chosen-room (scope (args .op) (args .card .now) (args .root .now) (args .chain .now)) (args .work .now) _ _ (chosen-after .ensures) in
+    omega (arith, if4 .left)
 
 mul-word-3 : tie.Need-mul-word-3
 mul-word-3 c =
-    let args = c .before .before .before .before .before .before .before .before .before .before .before .before
-    .before .before .before .before .before .args in
-    let chosen = c .before .chosen in
-    let i = chosen-room (scope (args .op) (args .card .now) (args .root .now) (args .chain .now)) (args .work .now) _ _ (chosen .ensures) in
-    omega arith
+    let args = c .before .before .before .before .before .before .before .before .before .before .before .before .before .before .before .before .before
+    .args in
+    let chosen-after = c .before .chosen-after in
+    let if4 = c .if4 in
+    let m = chosen-room (scope (args .op) (args .card .now) (args .root .now) (args .chain .now)) (args .work .now) _ _ (chosen-after .ensures) in
+    omega (arith, if4 .left)
 
 shared-slice-read-word-3 : tie.Need-shared-slice-read-word-3
 shared-slice-read-word-3 c =
-    let args = c .before .before .before .before .before .before .before .before .before .before .before .before
-    .before .before .before .before .before .before .args in
-    let chosen = c .before .before .chosen in
-    let i = chosen-room (scope (args .op) (args .card .now) (args .root .now) (args .chain .now)) (args .work .now) _ _ (chosen .ensures) in
-    omega arith
+    let args = c .before .before .before .before .before .before .before .before .before .before .before .before .before .before .before .before .before
+    .before .args in
+    let chosen-after = c .before .before .chosen-after in
+    let if4 = c .before .if4 in
+    let m = chosen-room (scope (args .op) (args .card .now) (args .root .now) (args .chain .now)) (args .work .now) _ _ (chosen-after .ensures) in
+    omega (arith, if4 .left)
 
 word-requires-3 : tie.Need-word-requires-3
 word-requires-3 c κs = search needs
@@ -149,8 +171,8 @@ same-base-requires c κs = search needs
 
 returns-5 : tie.Need-returns-5
 returns-5 c =
-    let args = c .before .before .before .before .before .before .before .before .before .before .before .before
-    .before .before .before .before .before .before .before .before .before .args in
+    let args = c .before .before .before .before .before .before .before .before .before .before .before .before .before .before .before .before .before
+    .before .before .before .before .args in
     let if1 = c .before .before .before .before .before .before .before .before .before .before .before .before .before .before .before .before .if1 in
     let room = c .before .before .before .before .before .before .before .before .before .before .before .before .before .before .before .room in
     let if2 = c .before .before .before .before .before .before .before .before .before .before .before .before .before .before .if2 in
@@ -160,19 +182,19 @@ returns-5 c =
     let next = c .before .before .before .before .before .before .before .before .next in
     let seek = c .before .before .before .before .before .before .before .seek in
     let if3 = c .before .before .before .before .before .before .if3 in
-    let chosen = c .before .before .before .before .before .chosen in
+    let chosen-after = c .before .before .before .before .before .chosen-after in
     let if4 = c .before .before .before .before .if4 in
     let word3 = c .before .before .word3 in
     let same-base = c .before .same-base in
     let if5 = c .if5 in
     use-prefix (scope (args .op) (args .card .now) (args .root .now) (args .chain .now)) (args .work .now) _ (if1 .left) _ (room .ensures)
     (if2 .left) _ _ _ (word .ensures .0) (word2 .ensures .0) (part .ensures) _ _ (next .ensures) (seek .ensures) (if3 .left) _
-    (chosen .ensures) (if4 .left) _ _ (word3 .ensures .0) (same-base .ensures) (if5 .taken)
+    (chosen-after .ensures) (if4 .left) _ _ (word3 .ensures .0) (same-base .ensures) (if5 .taken)
 
 returns-6 : tie.Need-returns-6
 returns-6 c =
-    let args = c .before .before .before .before .before .before .before .before .before .before .before .before
-    .before .before .before .before .before .before .before .before .before .args in
+    let args = c .before .before .before .before .before .before .before .before .before .before .before .before .before .before .before .before .before
+    .before .before .before .before .args in
     let if1 = c .before .before .before .before .before .before .before .before .before .before .before .before .before .before .before .before .if1 in
     let room = c .before .before .before .before .before .before .before .before .before .before .before .before .before .before .before .room in
     let if2 = c .before .before .before .before .before .before .before .before .before .before .before .before .before .before .if2 in
@@ -182,14 +204,14 @@ returns-6 c =
     let next = c .before .before .before .before .before .before .before .before .next in
     let seek = c .before .before .before .before .before .before .before .seek in
     let if3 = c .before .before .before .before .before .before .if3 in
-    let chosen = c .before .before .before .before .before .chosen in
+    let chosen-after = c .before .before .before .before .before .chosen-after in
     let if4 = c .before .before .before .before .if4 in
     let word3 = c .before .before .word3 in
     let same-base = c .before .same-base in
     let if5 = c .if5 in
     use-is (scope (args .op) (args .card .now) (args .root .now) (args .chain .now)) (args .work .now) _ (if1 .left) _ (room .ensures)
     (if2 .left) _ _ _ (word .ensures .0) (word2 .ensures .0) (part .ensures) _ _ (next .ensures) (seek .ensures) (if3 .left) _
-    (chosen .ensures) (if4 .left) _ _ (word3 .ensures .0) (same-base .ensures) (if5 .left)
+    (chosen-after .ensures) (if4 .left) _ _ (word3 .ensures .0) (same-base .ensures) (if5 .left)
 
 pub use-of-spec : {M : Type 1} → statement M
 use-of-spec =
@@ -211,7 +233,7 @@ use-of-spec =
     next-requires
     seek-requires
     returns-3
-    chosen-requires
+    chosen-after-requires
     returns-4
     sub-m
     mul-m

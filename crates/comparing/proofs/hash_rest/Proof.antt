@@ -1,11 +1,11 @@
 -- `comparing::hash_rest` meets its contract: what is left of the bytes has the hash of all from the place on. Assumes nothing.
 use mathlib.Core.Path.{_≡_, refl}
-use Prim.Native.Nat.{_<_, _-_}
+use Prim.Native.Nat.{_<_, _-_, _^_}
 use native.Mathlib.Omega.{arith}
 use lib.ListN.{length, drop}
 use borrow.Author.Needs.{needs}
-use Rattle.comparing.specs.Compares.{hashFrom}
-use Rattle.comparing.proofs.Hashes.{hash-none, hash-next, hash-below}
+use Rattle.comparing.specs.Compares.{hashRest}
+use Rattle.comparing.proofs.Hashes.{rest-none, rest-next, mixed-below}
 use Rattle.comparing.proofs.hash_rest.Statement.{statement}
 use Rattle.comparing.proofs.hash_rest.Tie as tie
 use Rattle.comparing.proofs.hash_rest.Reads as reads
@@ -13,7 +13,7 @@ use Rattle.comparing.proofs.hash_rest.Lts as lts
 use Rattle.wire.proofs.wide.Reads as wide-reads
 
 abbrev Inv-loop : tie.InvT-loop
-Inv-loop s from start h₀ i₀ h i = (h < 65536) × (hashFrom start (drop from s) ≡ hashFrom h (drop i s))
+Inv-loop s from start h₀ i₀ h i = (h < 2 ^ 32) × (hashRest start (drop from s) ≡ hashRest h (drop i s))
 
 abbrev μ-loop : tie.MeasureT-loop
 μ-loop s from start h₀ i₀ h i = length s - i
@@ -44,13 +44,13 @@ loop-again c =
     let loop-test = c .before .before .loop-test in
     let wide = c .wide in
     let loop = c .before .before .before .loop in
-    (hash-below _ _, hash-next _ _ _ _ _ _ (loop-test .taken) refl (wide .ensures .0) (loop .inv .1))
+    (mixed-below _ _, rest-next _ _ _ _ _ _ (loop-test .taken) refl (wide .ensures .0) (loop .inv .1))
 
 returns : tie.Need-returns Inv-loop μ-loop
 returns c =
     let loop-test = c .loop-test in
     let loop = c .before .loop in
-    (hash-none _ _ _ _ (loop-test .left) (loop .inv .1), loop .inv .0)
+    (rest-none _ _ _ _ (loop-test .left) (loop .inv .1), loop .inv .0)
 
 pub hash-rest-spec : {M : Type 1} → statement M
 hash-rest-spec =

@@ -1,0 +1,43 @@
+-- `choosing::chosen_after` meets its contract. Assumes nothing.
+use Rattle.prefix.specs.Prefix.{scope}
+use Rattle.choosing.proofs.Tests.{chosen-newest}
+use borrow.Author.Needs.{needs}
+use Rattle.choosing.proofs.chosen_after.Statement.{statement}
+use Rattle.choosing.proofs.chosen_after.Tie as tie
+use Rattle.choosing.proofs.chosen_after.Reads as reads
+use Rattle.choosing.proofs.chosen_after.Lts as lts
+use Rattle.chains.proofs.bucket.Reads as bucket-reads
+use Rattle.chains.proofs.head.Reads as head-reads
+use Rattle.chains.proofs.seek.Reads as seek-reads
+use Rattle.choosing.proofs.chosen.Reads as chosen-reads
+
+bucket-requires : tie.Need-bucket-requires
+bucket-requires c κs = search needs
+
+head-requires : tie.Need-head-requires
+head-requires c κs = search needs
+
+seek-requires : tie.Need-seek-requires
+seek-requires c κs = search needs
+
+returns : tie.Need-returns
+returns c =
+    let args = c .before .before .before .before .before .before .before .before .before .args in
+    let bucket = c .before .before .before .bucket in
+    let head = c .before .before .head in
+    let seek = c .before .seek in
+    let pre = c .before .before .before .before .before .before .before .before .before .pre in
+    let if1 = c .if1 in
+    chosen-newest (scope (args .op) (args .card .now) (args .root .now) (args .chain .now)) (args .work .now) (args .name .now) _ _ _ (bucket .ensures)
+    (head .ensures .0) (seek .ensures) _ (pre .0) (pre .1) (if1 .taken)
+
+chosen-requires : tie.Need-chosen-requires
+chosen-requires c κs = search needs
+
+returns-2 : tie.Need-returns-2
+returns-2 c = search needs
+
+pub chosen-after-spec : {M : Type 1} → statement M
+chosen-after-spec =
+    tie.close
+    (tie.spec bucket-requires head-requires seek-requires returns chosen-requires returns-2)

@@ -48,7 +48,7 @@ headOf words b = cond (ltb b (room words)) (headAt words b) 0
 unfoldable pub nextOf : List ℕ → ℕ → ℕ
 nextOf words g = cond (eqb g 0 || ltb (room words) g) 0 (cond (ltb (linkAt words (g - 1)) g) (linkAt words (g - 1)) 0)
 
--- whether a base, as a word, is another than the one that is sought by the words alone: paths of the card with different numbers
+-- whether words alone tell that a base is another than the one that is sought: both are paths of the card, with different numbers above their places
 unfoldable pub isOther : Want → ℕ → Bool
 isOther Named w = false
 isOther (Based v) w = not (eqb (placeIn w) 0 || (eqb (placeIn v) 0 || eqb (tagIn w) (tagIn v)))

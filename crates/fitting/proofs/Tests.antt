@@ -8,18 +8,18 @@ use native.Mathlib.Omega.{arith}
 use lib.ListN.{length, take, drop, getD, length-take, length-drop}
 use lib.Seq.{drop-drop, take-all, length-take-le}
 use lib.Dec.{eqb, leb, ltb}
-use borrow.Author.Tests.{lt-leb, le-leb, leb-true, leb-false, eq-eqb, ne-eqb}
+use borrow.Author.Tests.{lt-leb, le-leb, eq-eqb, ne-eqb}
 use Rattle.wire.specs.Numbers.{Bytes}
 use Rattle.records.specs.Record.{lengthOf, kindOf, contentOf, firstRecord, restOf}
 use Rattle.records.specs.Reading.{short}
 use Rattle.records.proofs.Tree.{long-enough}
-use Rattle.rast.proofs.Tests.{by-test}
 use Rattle.prefix.specs.Prefix.{Scope}
 use Rattle.chains.specs.Chains.{room, wordAt}
 use Rattle.adding.specs.Adds.{table}
 use Rattle.adding.specs.Settles.{ownWords}
 use Rattle.gathering.proofs.Spans.{kind-front}
 use Rattle.rewriting.specs.Rewrites.{partsOf}
+use Rattle.tables.proofs.Beside.{own-taken}
 use Rattle.rewriting.proofs.Parts.{parts-none, parts-step}
 use Rattle.growth.specs.Grows.{cardGrowth}
 use Rattle.fitting.specs.Fitting.{surelyFits, areFew, nestedFew, useMost, usesMost, isRoomy}
@@ -114,13 +114,6 @@ pub few-in : (card c₁ c₂ c₃ c₄ c₅ : Bytes) → c₁ ≡ contentOf card
 unfolding nestedFew
 few-in card c₁ c₂ c₃ c₄ c₅ e₁ e₂ e₃ e₄ e₅ most h = h ∙ rw (e₅, e₄, e₃, e₂, e₁)
 
--- the words of a table's pairs, as far as the words reach
-pub own-part : (words : List ℕ) (pairs k : ℕ) → k ≡ min (4 * pairs) (length words) → take k words ≡ ownWords (table pairs words)
-own-part words pairs k e =
-    by-test (leb (4 * pairs) (length words))
-    (λ t. let l = leb-true (4 * pairs) (length words) t in let z : k ≡ 4 * pairs = omega arith in rw z)
-    (λ t. let l = leb-false (4 * pairs) (length words) t in take-all k words (omega arith) ∙ sym (take-all (4 * pairs) words (omega arith)))
-
 -- they have room for the pairs
 pub own-room : (words : List ℕ) (pairs k : ℕ) {most : ℕ} → most ≡ room words → pairs ≤ most → k ≡ min (4 * pairs) (length words)
     → pairs ≤ room (take k words)
@@ -178,7 +171,7 @@ module _ (s : Scope) (lent pairs : ℕ) (words : List ℕ) where
       module _ (j : grown ≤ lent - length (s .card)) {k : ℕ} (o : k ≡ min (4 * pairs) (length words)) {uses : ℕ}
           (u : uses ≡ usesMost (s .card) (take k words) pairs) where
         uses-are : uses ≡ Uses
-        uses-are = u ∙ ap (λ (x : List ℕ). usesMost (s .card) x pairs) (own-part words pairs k o)
+        uses-are = u ∙ ap (λ (x : List ℕ). usesMost (s .card) x pairs) (own-taken words pairs k o)
 
         pub roomy-uses : lent - length (s .card) - grown < uses → false ≡ Roomy
         roomy-uses l = let w = uses-are in over (omega arith)

@@ -20,6 +20,7 @@ use Rattle.adding.specs.Adds.{Table, table}
 use Rattle.adding.specs.Settles.{ownWords}
 use Rattle.gathering.specs.Gathers.{Span, span, spansIn}
 use Rattle.tables.specs.Tables.{tableOf, hasRoom, isSmall, lastWords}
+use Rattle.tables.proofs.Beside.{own-taken}
 use Rattle.work.specs.Copies.{over}
 use Rattle.work.proofs.Copied.{over-whole, over-first}
 use Rattle.laying.specs.Lays.{lay, Laid, headBytes}
@@ -75,12 +76,6 @@ headed-two out o₁ p k n a b part after d e f l h =
 
 -- the words that pairs take, as the code lends them, and those behind them
 module _ (words : List ℕ) (pairs k : ℕ) (e : k ≡ min (4 * pairs) (length words)) where
-  pub own-taken : take k words ≡ take (4 * pairs) words
-  own-taken =
-      by-test (leb (4 * pairs) (length words))
-      (λ t. let l = leb-true (4 * pairs) (length words) t in let z : k ≡ 4 * pairs = omega arith in rw z)
-      (λ t. let l = leb-false (4 * pairs) (length words) t in take-all k words (omega arith) ∙ sym (take-all (4 * pairs) words (omega arith)))
-
   free-lent : lent words k ≡ drop (4 * pairs) words
   free-lent =
       lent-whole words k
@@ -90,7 +85,7 @@ module _ (words : List ℕ) (pairs k : ℕ) (e : k ≡ min (4 * pairs) (length w
       drop-of-length-le words {i = k} (omega arith) ∙ sym (drop-of-length-le words {i = 4 * pairs} (omega arith)))
 
   free-back : (part : List ℕ) → back words k part ≡ take (4 * pairs) words ++ part
-  free-back part = back-end words k part ∙ ap (λ (x : List ℕ). x ++ part) own-taken
+  free-back part = back-end words k part ∙ ap (λ (x : List ℕ). x ++ part) (own-taken words pairs k e)
 
 -- words that were lent, and as they were then put back
 put-back : (words₀ words : List ℕ) (k : ℕ) → k ≤ length words₀ → back (back words₀ k words) k (lent words₀ k) ≡ words₀

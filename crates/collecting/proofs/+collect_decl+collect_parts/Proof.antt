@@ -91,21 +91,17 @@ collect-parts-calls t = (
   collect-parts.Post,
 )
 
--- src/lib.rt:114:9
 collect-decl-add-name-requires : (t : ℕ) → collect-decl-lts.Need-add-name-requires (collect-decl-calls t) (collect-decl-at t) collect-decl.Post
 collect-decl-add-name-requires t c κs = search needs
 
--- src/lib.rt:115:5
 collect-decl-collect-parts-requires : (t : ℕ) → collect-decl-lts.Need-collect-parts-requires (collect-decl-calls t) (collect-decl-at t) collect-decl.Post
 collect-decl-collect-parts-requires t c κs =
     let pre = c .before .before .before .before .before .before .before .before .before .pre in
     (omega (arith, pre .0), (pre .1 .0, pre .1 .1, pre .1 .2))
 
--- src/lib.rt:98:1
 collect-decl-same-length : (t : ℕ) → collect-decl-lts.Need-same-length (collect-decl-calls t) (collect-decl-at t) collect-decl.Post
 collect-decl-same-length t c = search needs
 
--- src/lib.rt:98:1
 collect-decl-returns : (t : ℕ) → collect-decl-lts.Need-returns (collect-decl-calls t) (collect-decl-at t) collect-decl.Post
 collect-decl-returns t c =
     let args = c .before .before .before .before .before .before .before .before .before .before .before .before .args in
@@ -123,7 +119,6 @@ collect-parts-Inv-loop op card from to k left root chain work₀ n at₀ of₀ i
 abbrev collect-parts-μ-loop : collect-parts-lts.MeasureT-loop
 collect-parts-μ-loop op card from to k left root chain work₀ n at₀ of₀ i₀ deep₀ m₀ work at of i deep m = to - at
 
--- src/lib.rt:49:5
 collect-parts-loop-holds : (t : ℕ)
     → collect-parts-lts.Need-loop-holds (collect-parts-calls t) (collect-parts-at t) collect-parts.Post collect-parts-Inv-loop collect-parts-μ-loop
 collect-parts-loop-holds t c =
@@ -135,31 +130,26 @@ collect-parts-loop-holds t c =
       refl,
     )
 
--- src/lib.rt:50:38
 collect-parts-sub-part : (t : ℕ)
     → collect-parts-lts.Need-sub-part (collect-parts-calls t) (collect-parts-at t) collect-parts.Post collect-parts-Inv-loop collect-parts-μ-loop
 collect-parts-sub-part t c =
     let loop = c .before .loop in
     loop .inv .0 .ordered
 
--- src/lib.rt:50:13
 collect-parts-part-requires : (t : ℕ)
     → collect-parts-lts.Need-part-requires (collect-parts-calls t) (collect-parts-at t) collect-parts.Post collect-parts-Inv-loop collect-parts-μ-loop
 collect-parts-part-requires t c κs = search needs
 
--- src/lib.rt:51:12
 collect-parts-is-short-requires : (t : ℕ)
     → collect-parts-lts.Need-is-short-requires (collect-parts-calls t) (collect-parts-at t) collect-parts.Post collect-parts-Inv-loop collect-parts-μ-loop
 collect-parts-is-short-requires t c κs = search needs
 
--- src/lib.rt:52:13
 collect-parts-same-length : (t : ℕ)
     → collect-parts-lts.Need-same-length (collect-parts-calls t) (collect-parts-at t) collect-parts.Post collect-parts-Inv-loop collect-parts-μ-loop
 collect-parts-same-length t c =
     let loop = c .before .before .before .before .loop in
     omega (arith, loop .inv .1)
 
--- src/lib.rt:52:13
 collect-parts-returns : (t : ℕ)
     → collect-parts-lts.Need-returns (collect-parts-calls t) (collect-parts-at t) collect-parts.Post collect-parts-Inv-loop collect-parts-μ-loop
 collect-parts-returns t c =
@@ -169,14 +159,12 @@ collect-parts-returns t c =
     let if1 = c .if1 in
     going-short (loop .inv .0) (part .ensures) (is-short .ensures) (if1 .taken)
 
--- src/lib.rt:55:13
 collect-parts-same-length-2 : (t : ℕ)
     → collect-parts-lts.Need-same-length-2 (collect-parts-calls t) (collect-parts-at t) collect-parts.Post collect-parts-Inv-loop collect-parts-μ-loop
 collect-parts-same-length-2 t c =
     let loop = c .before .before .before .before .before .loop in
     omega (arith, loop .inv .1)
 
--- src/lib.rt:55:13
 collect-parts-returns-2 : (t : ℕ)
     → collect-parts-lts.Need-returns-2 (collect-parts-calls t) (collect-parts-at t) collect-parts.Post collect-parts-Inv-loop collect-parts-μ-loop
 collect-parts-returns-2 t c =
@@ -184,7 +172,6 @@ collect-parts-returns-2 t c =
     let if2 = c .if2 in
     going-deep (loop .inv .0) (if2 .taken)
 
--- src/lib.rt:57:20
 collect-parts-add-next : (t : ℕ)
     → collect-parts-lts.Need-add-next (collect-parts-calls t) (collect-parts-at t) collect-parts.Post collect-parts-Inv-loop collect-parts-μ-loop
 collect-parts-add-next t c =
@@ -192,12 +179,10 @@ collect-parts-add-next t c =
     let pre = c .before .before .before .before .before .before .before .before .before .before .pre in
     let o = loop .inv .0 .ordered in let p = pre .1 .1 in omega arith
 
--- src/lib.rt:57:29
 collect-parts-record-length-requires : (t : ℕ)
     → collect-parts-lts.Need-record-length-requires (collect-parts-calls t) (collect-parts-at t) collect-parts.Post collect-parts-Inv-loop collect-parts-μ-loop
 collect-parts-record-length-requires t c κs = search needs
 
--- src/lib.rt:57:20
 collect-parts-add-next-2 : (t : ℕ)
     → collect-parts-lts.Need-add-next-2 (collect-parts-calls t) (collect-parts-at t) collect-parts.Post collect-parts-Inv-loop collect-parts-μ-loop
 collect-parts-add-next-2 t c =
@@ -211,17 +196,14 @@ collect-parts-add-next-2 t c =
     let p = pre .1 .1 in
     omega arith
 
--- src/lib.rt:58:13
 collect-parts-record-kind-requires : (t : ℕ)
     → collect-parts-lts.Need-record-kind-requires (collect-parts-calls t) (collect-parts-at t) collect-parts.Post collect-parts-Inv-loop collect-parts-μ-loop
 collect-parts-record-kind-requires t c κs = search needs
 
--- src/lib.rt:59:12
 collect-parts-is-passed-requires : (t : ℕ)
     → collect-parts-lts.Need-is-passed-requires (collect-parts-calls t) (collect-parts-at t) collect-parts.Post collect-parts-Inv-loop collect-parts-μ-loop
 collect-parts-is-passed-requires t c κs = search needs
 
--- src/lib.rt:61:13
 collect-parts-add-i : (t : ℕ)
     → collect-parts-lts.Need-add-i (collect-parts-calls t) (collect-parts-at t) collect-parts.Post collect-parts-Inv-loop collect-parts-μ-loop
 collect-parts-add-i t c =
@@ -229,7 +211,6 @@ collect-parts-add-i t c =
     let pre = c .before .before .before .before .before .before .before .before .before .before .before .before .before .before .pre in
     let o = loop .inv .0 .counted in let p = loop .inv .0 .ordered in let q = pre .1 .1 in omega arith
 
--- src/lib.rt:49:5
 collect-parts-loop-less : (t : ℕ)
     → collect-parts-lts.Need-loop-less (collect-parts-calls t) (collect-parts-at t) collect-parts.Post collect-parts-Inv-loop collect-parts-μ-loop
 collect-parts-loop-less t c =
@@ -243,7 +224,6 @@ collect-parts-loop-less t c =
     let z = loop-test .taken in
     omega arith
 
--- src/lib.rt:49:5
 collect-parts-loop-again : (t : ℕ)
     → collect-parts-lts.Need-loop-again (collect-parts-calls t) (collect-parts-at t) collect-parts.Post collect-parts-Inv-loop collect-parts-μ-loop
 collect-parts-loop-again t c =
@@ -260,7 +240,6 @@ collect-parts-loop-again t c =
       omega (arith, loop .inv .1),
     )
 
--- src/lib.rt:64:21
 collect-parts-add-inner : (t : ℕ)
     → collect-parts-lts.Need-add-inner (collect-parts-calls t) (collect-parts-at t) collect-parts.Post collect-parts-Inv-loop collect-parts-μ-loop
 collect-parts-add-inner t c =
@@ -268,12 +247,10 @@ collect-parts-add-inner t c =
     let pre = c .before .before .before .before .before .before .before .before .before .before .before .before .before .before .pre in
     let o = loop .inv .0 .ordered in let p = pre .1 .1 in let q = pre .1 .2 in omega arith
 
--- src/lib.rt:66:13
 collect-parts-add-path-requires : (t : ℕ)
     → collect-parts-lts.Need-add-path-requires (collect-parts-calls t) (collect-parts-at t) collect-parts.Post collect-parts-Inv-loop collect-parts-μ-loop
 collect-parts-add-path-requires t c κs = search needs
 
--- src/lib.rt:68:13
 collect-parts-add-i-2 : (t : ℕ)
     → collect-parts-lts.Need-add-i-2 (collect-parts-calls t) (collect-parts-at t) collect-parts.Post collect-parts-Inv-loop collect-parts-μ-loop
 collect-parts-add-i-2 t c =
@@ -282,7 +259,6 @@ collect-parts-add-i-2 t c =
     .before .before .pre in
     let o = loop .inv .0 .counted in let p = loop .inv .0 .ordered in let q = pre .1 .1 in omega arith
 
--- src/lib.rt:49:5
 collect-parts-loop-less-2 : (t : ℕ)
     → collect-parts-lts.Need-loop-less-2 (collect-parts-calls t) (collect-parts-at t) collect-parts.Post collect-parts-Inv-loop collect-parts-μ-loop
 collect-parts-loop-less-2 t c =
@@ -296,7 +272,6 @@ collect-parts-loop-less-2 t c =
     let z = loop-test .taken in
     omega arith
 
--- src/lib.rt:49:5
 collect-parts-loop-again-2 : (t : ℕ)
     → collect-parts-lts.Need-loop-again-2 (collect-parts-calls t) (collect-parts-at t) collect-parts.Post collect-parts-Inv-loop collect-parts-μ-loop
 collect-parts-loop-again-2 t c =
@@ -319,12 +294,10 @@ collect-parts-loop-again-2 t c =
       omega (arith, loop .inv .1),
     )
 
--- src/lib.rt:72:13
 collect-parts-add-path-requires-2 : (t : ℕ)
     → collect-parts-lts.Need-add-path-requires-2 (collect-parts-calls t) (collect-parts-at t) collect-parts.Post collect-parts-Inv-loop collect-parts-μ-loop
 collect-parts-add-path-requires-2 t c κs = search needs
 
--- src/lib.rt:74:13
 collect-parts-add-i-3 : (t : ℕ)
     → collect-parts-lts.Need-add-i-3 (collect-parts-calls t) (collect-parts-at t) collect-parts.Post collect-parts-Inv-loop collect-parts-μ-loop
 collect-parts-add-i-3 t c =
@@ -333,7 +306,6 @@ collect-parts-add-i-3 t c =
     .before .before .before .pre in
     let o = loop .inv .0 .counted in let p = loop .inv .0 .ordered in let q = pre .1 .1 in omega arith
 
--- src/lib.rt:49:5
 collect-parts-loop-less-3 : (t : ℕ)
     → collect-parts-lts.Need-loop-less-3 (collect-parts-calls t) (collect-parts-at t) collect-parts.Post collect-parts-Inv-loop collect-parts-μ-loop
 collect-parts-loop-less-3 t c =
@@ -347,7 +319,6 @@ collect-parts-loop-less-3 t c =
     let z = loop-test .taken in
     omega arith
 
--- src/lib.rt:49:5
 collect-parts-loop-again-3 : (t : ℕ)
     → collect-parts-lts.Need-loop-again-3 (collect-parts-calls t) (collect-parts-at t) collect-parts.Post collect-parts-Inv-loop collect-parts-μ-loop
 collect-parts-loop-again-3 t c =
@@ -370,19 +341,16 @@ collect-parts-loop-again-3 t c =
       omega (arith, loop .inv .1),
     )
 
--- src/lib.rt:77:12
 collect-parts-stands-requires : (t : ℕ)
     → collect-parts-lts.Need-stands-requires (collect-parts-calls t) (collect-parts-at t) collect-parts.Post collect-parts-Inv-loop collect-parts-μ-loop
 collect-parts-stands-requires t c κs = search needs
 
--- src/lib.rt:78:56
 collect-parts-sub-collect-decl : (t : ℕ)
     → collect-parts-lts.Need-sub-collect-decl (collect-parts-calls t) (collect-parts-at t) collect-parts.Post collect-parts-Inv-loop collect-parts-μ-loop
 collect-parts-sub-collect-decl t c =
     let if2 = c .before .before .before .before .before .before .before .before .if2 in
     at-least-one _ (if2 .left)
 
--- src/lib.rt:78:13
 collect-parts-collect-decl-requires : (t : ℕ)
     → collect-parts-lts.Need-collect-decl-requires (collect-parts-calls t) (collect-parts-at t) collect-parts.Post collect-parts-Inv-loop collect-parts-μ-loop
 collect-parts-collect-decl-requires t c κs =
@@ -410,7 +378,6 @@ collect-parts-collect-decl-requires t c κs =
       ),
     )
 
--- src/lib.rt:80:13
 collect-parts-add-i-4 : (t : ℕ)
     → collect-parts-lts.Need-add-i-4 (collect-parts-calls t) (collect-parts-at t) collect-parts.Post collect-parts-Inv-loop collect-parts-μ-loop
 collect-parts-add-i-4 t c =
@@ -420,7 +387,6 @@ collect-parts-add-i-4 t c =
     .before .before .before .before .before .pre in
     let o = loop .inv .0 .counted in let p = loop .inv .0 .ordered in let q = pre .1 .1 in omega arith
 
--- src/lib.rt:49:5
 collect-parts-loop-less-4 : (t : ℕ)
     → collect-parts-lts.Need-loop-less-4 (collect-parts-calls t) (collect-parts-at t) collect-parts.Post collect-parts-Inv-loop collect-parts-μ-loop
 collect-parts-loop-less-4 t c =
@@ -436,7 +402,6 @@ collect-parts-loop-less-4 t c =
     let z = loop-test .taken in
     omega arith
 
--- src/lib.rt:49:5
 collect-parts-loop-again-4 : (t : ℕ)
     → collect-parts-lts.Need-loop-again-4 (collect-parts-calls t) (collect-parts-at t) collect-parts.Post collect-parts-Inv-loop collect-parts-μ-loop
 collect-parts-loop-again-4 t c =
@@ -457,21 +422,18 @@ collect-parts-loop-again-4 t c =
       omega (arith, loop .inv .1),
     )
 
--- src/lib.rt:87:13
 collect-parts-sub-deep : (t : ℕ)
     → collect-parts-lts.Need-sub-deep (collect-parts-calls t) (collect-parts-at t) collect-parts.Post collect-parts-Inv-loop collect-parts-μ-loop
 collect-parts-sub-deep t c =
     let if2 = c .before .before .before .before .before .before .before .before .before .if2 in
     at-least-one _ (if2 .left)
 
--- src/lib.rt:49:5
 collect-parts-loop-less-5 : (t : ℕ)
     → collect-parts-lts.Need-loop-less-5 (collect-parts-calls t) (collect-parts-at t) collect-parts.Post collect-parts-Inv-loop collect-parts-μ-loop
 collect-parts-loop-less-5 t c =
     let loop-test = c .before .before .before .before .before .before .before .before .before .before .before .before .before .loop-test in
     let z = loop-test .taken in omega arith
 
--- src/lib.rt:49:5
 collect-parts-loop-again-5 : (t : ℕ)
     → collect-parts-lts.Need-loop-again-5 (collect-parts-calls t) (collect-parts-at t) collect-parts.Post collect-parts-Inv-loop collect-parts-μ-loop
 collect-parts-loop-again-5 t c =
@@ -498,14 +460,12 @@ collect-parts-loop-again-5 t c =
       omega (arith, loop .inv .1),
     )
 
--- src/lib.rt:90:53
 collect-parts-sub-collect-parts : (t : ℕ)
     → collect-parts-lts.Need-sub-collect-parts (collect-parts-calls t) (collect-parts-at t) collect-parts.Post collect-parts-Inv-loop collect-parts-μ-loop
 collect-parts-sub-collect-parts t c =
     let if2 = c .before .before .before .before .before .before .before .before .before .if2 in
     at-least-one _ (if2 .left)
 
--- src/lib.rt:90:9
 collect-parts-collect-parts-requires : (t : ℕ)
     → collect-parts-lts.Need-collect-parts-requires (collect-parts-calls t) (collect-parts-at t) collect-parts.Post collect-parts-Inv-loop collect-parts-μ-loop
 collect-parts-collect-parts-requires t c κs =
@@ -526,7 +486,6 @@ collect-parts-collect-parts-requires t c κs =
       (going-six (loop .inv .0) (part .ensures) (is-short .ensures) (if1 .left) (record-length .ensures), omega arith, pre .1 .2),
     )
 
--- src/lib.rt:92:9
 collect-parts-add-i-5 : (t : ℕ)
     → collect-parts-lts.Need-add-i-5 (collect-parts-calls t) (collect-parts-at t) collect-parts.Post collect-parts-Inv-loop collect-parts-μ-loop
 collect-parts-add-i-5 t c =
@@ -536,7 +495,6 @@ collect-parts-add-i-5 t c =
     .before .before .before .before .before .before .pre in
     let o = loop .inv .0 .counted in let p = loop .inv .0 .ordered in let q = pre .1 .1 in omega arith
 
--- src/lib.rt:49:5
 collect-parts-loop-less-6 : (t : ℕ)
     → collect-parts-lts.Need-loop-less-6 (collect-parts-calls t) (collect-parts-at t) collect-parts.Post collect-parts-Inv-loop collect-parts-μ-loop
 collect-parts-loop-less-6 t c =
@@ -552,7 +510,6 @@ collect-parts-loop-less-6 t c =
     let z = loop-test .taken in
     omega arith
 
--- src/lib.rt:49:5
 collect-parts-loop-again-6 : (t : ℕ)
     → collect-parts-lts.Need-loop-again-6 (collect-parts-calls t) (collect-parts-at t) collect-parts.Post collect-parts-Inv-loop collect-parts-μ-loop
 collect-parts-loop-again-6 t c =
@@ -582,14 +539,12 @@ collect-parts-loop-again-6 t c =
       omega (arith, loop .inv .1),
     )
 
--- src/lib.rt:28:1
 collect-parts-same-length-3 : (t : ℕ)
     → collect-parts-lts.Need-same-length-3 (collect-parts-calls t) (collect-parts-at t) collect-parts.Post collect-parts-Inv-loop collect-parts-μ-loop
 collect-parts-same-length-3 t c =
     let loop = c .before .loop in
     omega (arith, loop .inv .1)
 
--- src/lib.rt:28:1
 collect-parts-returns-3 : (t : ℕ)
     → collect-parts-lts.Need-returns-3 (collect-parts-calls t) (collect-parts-at t) collect-parts.Post collect-parts-Inv-loop collect-parts-μ-loop
 collect-parts-returns-3 t c =

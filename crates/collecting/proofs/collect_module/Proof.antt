@@ -6,15 +6,12 @@ use borrow.Author.Needs.{needs}
 use Rattle.collecting.proofs.collect_module.Statement.{statement}
 use Rattle.collecting.proofs.collect_module.Tie as tie
 
--- src/lib.rt:132:5
 start-requires : tie.Need-start-requires
 start-requires c κs = search needs
 
--- src/lib.rt:134:9
 same-length : tie.Need-same-length
 same-length c = search needs
 
--- src/lib.rt:134:9
 returns : tie.Need-returns
 returns c =
     let args = c .before .before .before .before .before .before .before .before .before .args in
@@ -23,19 +20,15 @@ returns c =
     module-long (scope (args .op) (args .card .now) (args .root .now) (args .chain .now)) (args .work .now) (args .at) (args .left) (start .ensures) (if1
     .taken)
 
--- src/lib.rt:136:9
 part-requires : tie.Need-part-requires
 part-requires c κs = search needs
 
--- src/lib.rt:137:8
 is-short-requires : tie.Need-is-short-requires
 is-short-requires c κs = search needs
 
--- src/lib.rt:138:9
 same-length-2 : tie.Need-same-length-2
 same-length-2 c = search needs
 
--- src/lib.rt:138:9
 returns-2 : tie.Need-returns-2
 returns-2 c =
     let args = c .before .before .before .before .before .before .before .before .before .before .before .before .args in
@@ -47,7 +40,6 @@ returns-2 c =
     module-none (scope (args .op) (args .card .now) (args .root .now) (args .chain .now)) (args .work .now) (args .at) (args .left) (start .ensures) (if1 .left)
     (part .ensures) (is-short .ensures) (if2 .taken)
 
--- src/lib.rt:140:14
 add-to : tie.Need-add-to
 add-to c =
     let args = c .before .before .before .before .before .before .before .before .before .before .before .before .args in
@@ -57,11 +49,9 @@ add-to c =
     let if1 = c .before .before .before .if1 in
     let z = module-four (args .card .now) (args .at) (part .ensures) (is-short .ensures) (if2 .left) in omega (arith, z, if1 .left)
 
--- src/lib.rt:140:23
 record-length-requires : tie.Need-record-length-requires
 record-length-requires c κs = search needs
 
--- src/lib.rt:140:14
 add-to-2 : tie.Need-add-to-2
 add-to-2 c =
     let args = c .before .before .before .before .before .before .before .before .before .before .before .before .before .args in
@@ -72,7 +62,6 @@ add-to-2 c =
     let if1 = c .before .before .before .before .if1 in
     let z = module-to (args .card .now) (args .at) (part .ensures) (is-short .ensures) (if2 .left) (record-length .ensures) in omega (arith, z, if1 .left)
 
--- src/lib.rt:141:5
 collect-parts-requires : tie.Need-collect-parts-requires
 collect-parts-requires c κs =
     let args = c .before .before .before .before .before .before .before .before .before .before .before .before .before .before .args in
@@ -86,11 +75,9 @@ collect-parts-requires c κs =
       if1 .left,
     )
 
--- src/lib.rt:120:1
 same-length-3 : tie.Need-same-length-3
 same-length-3 c = search needs
 
--- src/lib.rt:120:1
 returns-3 : tie.Need-returns-3
 returns-3 c =
     let args = c .before .before .before .before .before .before .before .before .before .before .before .before .before .before .before .before .before

@@ -4,11 +4,9 @@ use borrow.Author.Needs.{needs}
 use Rattle.console.proofs.vegashol_shorten.Statement.{statement}
 use Rattle.console.proofs.vegashol_shorten.Tie as tie
 
--- src/lib.rt:10:21
 shorten-alone-requires : tie.Need-shorten-alone-requires
 shorten-alone-requires c κs = search needs
 
--- src/lib.rt:10:5
 packed-requires : tie.Need-packed-requires
 packed-requires c κs = search needs
 

@@ -21,51 +21,40 @@ Inv-loop card most body end i₀ i = Left most body i
 abbrev μ-loop : tie.MeasureT-loop
 μ-loop card most body end i₀ i = end - i
 
--- src/lib.rt:37:9
 content-requires : tie.Need-content-requires Inv-loop μ-loop
 content-requires c κs = search needs
 
--- src/lib.rt:38:58
 rest-requires : tie.Need-rest-requires Inv-loop μ-loop
 rest-requires c κs = search needs
 
--- src/lib.rt:38:45
 rest-requires-2 : tie.Need-rest-requires-2 Inv-loop μ-loop
 rest-requires-2 c κs = search needs
 
--- src/lib.rt:38:32
 rest-requires-3 : tie.Need-rest-requires-3 Inv-loop μ-loop
 rest-requires-3 c κs = search needs
 
--- src/lib.rt:38:9
 content-requires-2 : tie.Need-content-requires-2 Inv-loop μ-loop
 content-requires-2 c κs = search needs
 
--- src/lib.rt:41:5
 loop-holds : tie.Need-loop-holds Inv-loop μ-loop
 loop-holds c =
     let args = c .before .before .before .before .before .before .args in
     left-start (args .most) _
 
--- src/lib.rt:42:17
 sub-s : tie.Need-sub-s Inv-loop μ-loop
 sub-s c =
     let loop = c .before .loop in
     loop .inv .inside
 
--- src/lib.rt:42:17
 part-s-start : tie.Need-part-s-start Inv-loop μ-loop
 part-s-start c = search needs
 
--- src/lib.rt:42:17
 part-s-end : tie.Need-part-s-end Inv-loop μ-loop
 part-s-end c = search needs
 
--- src/lib.rt:43:12
 is-short-requires : tie.Need-is-short-requires Inv-loop μ-loop
 is-short-requires c κs = search needs
 
--- src/lib.rt:44:13
 returns : tie.Need-returns Inv-loop μ-loop
 returns c =
     let args = c .before .before .before .before .before .before .before .before .before .before .before .args in
@@ -80,23 +69,18 @@ returns c =
     few-in (args .card .now) _ _ _ _ _ (content .ensures) (rest .ensures) (rest2 .ensures) (rest3 .ensures) (content2 .ensures) (args .most)
     (left-short (loop .inv) (tail-is _ (loop .i)) (is-short .ensures) (if1 .taken))
 
--- src/lib.rt:46:21
 record-length-requires : tie.Need-record-length-requires Inv-loop μ-loop
 record-length-requires c κs = search needs
 
--- src/lib.rt:46:17
 add-n : tie.Need-add-n Inv-loop μ-loop
 add-n c = search needs
 
--- src/lib.rt:47:20
 record-kind-requires : tie.Need-record-kind-requires Inv-loop μ-loop
 record-kind-requires c κs = search needs
 
--- src/lib.rt:47:12
 is-many-requires : tie.Need-is-many-requires Inv-loop μ-loop
 is-many-requires c κs = search needs
 
--- src/lib.rt:48:13
 returns-2 : tie.Need-returns-2 Inv-loop μ-loop
 returns-2 c =
     let args = c .before .before .before .before .before .before .before .before .before .before .before .before .before .before .before .args in
@@ -116,7 +100,6 @@ returns-2 c =
     (left-many (loop .inv) (tail-is _ (loop .i)) (is-short .ensures) (if1 .left) (record-length .ensures) (record-kind .ensures) (is-many .ensures) (if2
     .taken))
 
--- src/lib.rt:50:9
 add-i : tie.Need-add-i Inv-loop μ-loop
 add-i c =
     let loop = c .before .before .before .before .before .before .before .before .loop in
@@ -125,7 +108,6 @@ add-i c =
     let record-length = c .before .before .before .record-length in
     let o = left-inside (loop .inv) (tail-is _ (loop .i)) (is-short .ensures) (if1 .left) (record-length .ensures) in omega arith
 
--- src/lib.rt:41:5
 loop-less : tie.Need-loop-less Inv-loop μ-loop
 loop-less c =
     let loop = c .before .before .before .before .before .before .before .before .loop in
@@ -135,7 +117,6 @@ loop-less c =
     let loop-test = c .before .before .before .before .before .before .before .loop-test in
     let o = left-inside (loop .inv) (tail-is _ (loop .i)) (is-short .ensures) (if1 .left) (record-length .ensures) in let z = loop-test .taken in omega arith
 
--- src/lib.rt:41:5
 loop-again : tie.Need-loop-again Inv-loop μ-loop
 loop-again c =
     let loop = c .before .before .before .before .before .before .before .before .loop in
@@ -147,7 +128,6 @@ loop-again c =
     let if2 = c .if2 in
     left-next (loop .inv) (tail-is _ (loop .i)) (is-short .ensures) (if1 .left) (record-length .ensures) (record-kind .ensures) (is-many .ensures) (if2 .left)
 
--- src/lib.rt:34:1
 returns-3 : tie.Need-returns-3 Inv-loop μ-loop
 returns-3 c =
     let args = c .before .before .before .before .before .before .before .before .args in

@@ -6,31 +6,24 @@ use borrow.Author.Needs.{needs}
 use Rattle.measuring.proofs.measure_first.Statement.{statement}
 use Rattle.measuring.proofs.measure_first.Tie as tie
 
--- src/lib.rt:50:49
 slice-relend-prefix-write-card : tie.Need-slice-relend-prefix-write-card
 slice-relend-prefix-write-card c = search needs
 
--- src/lib.rt:50:49
 slice-aggregate-write-card : tie.Need-slice-aggregate-write-card
 slice-aggregate-write-card c = search needs
 
--- src/lib.rt:50:9
 write-card-requires : tie.Need-write-card-requires
 write-card-requires c κs = search needs
 
--- src/lib.rt:53:30
 sub-t16 : tie.Need-sub-t16
 sub-t16 c = search needs
 
--- src/lib.rt:53:9
 same-length : tie.Need-same-length
 same-length c = search needs
 
--- src/lib.rt:53:9
 same-length-2 : tie.Need-same-length-2
 same-length-2 c = search needs
 
--- src/lib.rt:53:9
 returns : tie.Need-returns
 returns c =
     let args = c .before .before .before .before .before .before .before .before .before .before .before .before .args in
@@ -39,15 +32,12 @@ returns c =
     full-gives (args .op) (args .card .now) (args .root .now) (args .owner) (table (args .pairs) (args .work .now)) (args .out .now) (write-card .ensures)
     (if1 .taken)
 
--- src/lib.rt:57:9
 same-length-3 : tie.Need-same-length-3
 same-length-3 c = search needs
 
--- src/lib.rt:57:9
 same-length-4 : tie.Need-same-length-4
 same-length-4 c = search needs
 
--- src/lib.rt:57:9
 returns-2 : tie.Need-returns-2
 returns-2 c =
     let args = c .before .before .before .before .before .before .before .before .before .before .before .before .before .args in
@@ -57,19 +47,15 @@ returns-2 c =
     no-room-gives (args .op) (args .card .now) (args .root .now) (args .owner) (table (args .pairs) (args .work .now)) (args .out .now) (write-card .ensures)
     (omega (arith, if1 .left)) (if2 .taken)
 
--- src/lib.rt:59:5
 write-card-requires-2 : tie.Need-write-card-requires-2
 write-card-requires-2 c κs = search needs
 
--- src/lib.rt:38:1
 same-length-5 : tie.Need-same-length-5
 same-length-5 c = search needs
 
--- src/lib.rt:38:1
 same-length-6 : tie.Need-same-length-6
 same-length-6 c = search needs
 
--- src/lib.rt:38:1
 returns-3 : tie.Need-returns-3
 returns-3 c =
     let args = c .before .before .before .before .before .before .before .before .before .before .before .before .before .before .before .before .before

@@ -4,23 +4,18 @@ use borrow.Author.Needs.{needs}
 use Rattle.measuring.proofs.write.Statement.{statement}
 use Rattle.measuring.proofs.write.Tie as tie
 
--- src/lib.rt:68:8
 surely-fits-requires : tie.Need-surely-fits-requires
 surely-fits-requires c κs = search needs
 
--- src/lib.rt:69:9
 write-at-once-requires : tie.Need-write-at-once-requires
 write-at-once-requires c κs = search needs
 
--- src/lib.rt:69:9
 same-length : tie.Need-same-length
 same-length c = search needs
 
--- src/lib.rt:69:9
 same-length-2 : tie.Need-same-length-2
 same-length-2 c = search needs
 
--- src/lib.rt:69:9
 returns : tie.Need-returns
 returns c =
     let args = c .before .before .before .before .before .before .before .before .before .before .before .before .before .before .before .args in
@@ -30,39 +25,30 @@ returns c =
     surely-gives (args .op) (args .card .now) (args .root .now) (args .work .now) (args .out .now) (surely-fits .ensures) (if1 .taken)
     (write-at-once .ensures)
 
--- src/lib.rt:71:30
 name-place-requires : tie.Need-name-place-requires
 name-place-requires c κs = search needs
 
--- src/lib.rt:76:56
 slice-aggregate-table-of : tie.Need-slice-aggregate-table-of
 slice-aggregate-table-of c = search needs
 
--- src/lib.rt:76:9
 table-of-requires : tie.Need-table-of-requires
 table-of-requires c κs = search needs
 
--- src/lib.rt:78:42
 slice-aggregate-is-roomy : tie.Need-slice-aggregate-is-roomy
 slice-aggregate-is-roomy c = search needs
 
--- src/lib.rt:78:8
 is-roomy-requires : tie.Need-is-roomy-requires
 is-roomy-requires c κs = search needs
 
--- src/lib.rt:79:9
 write-at-once-requires-2 : tie.Need-write-at-once-requires-2
 write-at-once-requires-2 c κs = search needs
 
--- src/lib.rt:79:9
 same-length-3 : tie.Need-same-length-3
 same-length-3 c = search needs
 
--- src/lib.rt:79:9
 same-length-4 : tie.Need-same-length-4
 same-length-4 c = search needs
 
--- src/lib.rt:79:9
 returns-2 : tie.Need-returns-2
 returns-2 c =
     let args = c .before .before .before .before .before .before .before .before .before .before .before .before .before .before .before .before .before
@@ -80,19 +66,15 @@ returns-2 c =
     (name-place .ensures) (table-of .ensures .1) (is-roomy .ensures) (if2 .taken)
     (write-at-once2 .ensures)
 
--- src/lib.rt:81:5
 measure-first-requires : tie.Need-measure-first-requires
 measure-first-requires c κs = search needs
 
--- src/lib.rt:64:1
 same-length-5 : tie.Need-same-length-5
 same-length-5 c = search needs
 
--- src/lib.rt:64:1
 same-length-6 : tie.Need-same-length-6
 same-length-6 c = search needs
 
--- src/lib.rt:64:1
 returns-3 : tie.Need-returns-3
 returns-3 c =
     let args = c .before .before .before .before .before .before .before .before .before .before .before .before .before .before .before .before .before

@@ -6,23 +6,18 @@ use borrow.Author.Needs.{needs}
 use Rattle.measuring.proofs.write_at_once.Statement.{statement}
 use Rattle.measuring.proofs.write_at_once.Tie as tie
 
--- src/lib.rt:29:9
 write-card-requires : tie.Need-write-card-requires
 write-card-requires c κs = search needs
 
--- src/lib.rt:32:30
 sub-t15 : tie.Need-sub-t15
 sub-t15 c = search needs
 
--- src/lib.rt:32:9
 same-length : tie.Need-same-length
 same-length c = search needs
 
--- src/lib.rt:32:9
 same-length-2 : tie.Need-same-length-2
 same-length-2 c = search needs
 
--- src/lib.rt:32:9
 returns : tie.Need-returns
 returns c =
     let args = c .before .before .before .before .before .before .before .before .before .before .before .before .args in
@@ -30,15 +25,12 @@ returns c =
     let if1 = c .if1 in
     direct-full (args .op) (args .card .now) (args .root .now) (args .owner) (table (args .pairs) (args .work .now)) (write-card .ensures) (if1 .taken)
 
--- src/lib.rt:17:1
 same-length-3 : tie.Need-same-length-3
 same-length-3 c = search needs
 
--- src/lib.rt:17:1
 same-length-4 : tie.Need-same-length-4
 same-length-4 c = search needs
 
--- src/lib.rt:17:1
 returns-2 : tie.Need-returns-2
 returns-2 c =
     let args = c .before .before .before .before .before .before .before .before .before .before .before .before .args in

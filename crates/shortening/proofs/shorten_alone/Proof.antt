@@ -6,18 +6,15 @@ use borrow.Author.Needs.{needs}
 use Rattle.shortening.proofs.shorten_alone.Statement.{statement}
 use Rattle.shortening.proofs.shorten_alone.Tie as tie
 
--- src/lib.rt:65:9
 admit-requires : tie.Need-admit-requires
 admit-requires c κs = search needs
 
 enum-told : tie.Need-enum-told
 enum-told c = search needs
 
--- src/lib.rt:68:26
 enum-known-v : tie.Need-enum-known-v
 enum-known-v c = search needs
 
--- src/lib.rt:69:13
 returns : tie.Need-returns
 returns c =
     let args = c .before .before .before .before .before .before .before .args in
@@ -28,7 +25,6 @@ returns c =
     alone-refused (args .card .now) (args .root .now) (args .out .now) (λ i. shared-slice-known .given i .fits) (λ i. shared-slice-known2 .given i .fits) _
     (admit .ensures) _ (v .given .1)
 
--- src/lib.rt:73:9
 shorten-small-requires : tie.Need-shorten-small-requires
 shorten-small-requires c κs =
     let admit = c .before .before .before .before .admit in
@@ -36,26 +32,21 @@ shorten-small-requires c κs =
     let if1 = c .before .if1 in
     (sym (admit .ensures) ∙ enum-told .given .1, omega (arith, if1 .taken))
 
--- src/lib.rt:73:9
 same-length : tie.Need-same-length
 same-length c = search needs
 
--- src/lib.rt:73:9
 returns-2 : tie.Need-returns-2
 returns-2 c = search needs
 
--- src/lib.rt:75:5
 shorten-large-requires : tie.Need-shorten-large-requires
 shorten-large-requires c κs =
     let admit = c .before .before .before .before .admit in
     let enum-told = c .before .before .enum-told in
     sym (admit .ensures) ∙ enum-told .given .1
 
--- src/lib.rt:62:1
 same-length-2 : tie.Need-same-length-2
 same-length-2 c = search needs
 
--- src/lib.rt:62:1
 returns-3 : tie.Need-returns-3
 returns-3 c = search needs
 

@@ -11,6 +11,24 @@ extern "C" {
         out: *mut u8,
         out_len: usize,
     ) -> u64;
+    fn vegashol_shorten_places(
+        card: *const u8,
+        card_len: usize,
+        root: *const u8,
+        root_len: usize,
+        out: *mut u8,
+        out_len: usize,
+        list: *mut u32,
+        list_len: usize,
+        entries: *mut u32,
+    ) -> u64;
+}
+
+fn unpacked(packed: u64) -> Answer {
+    match ((packed >> 32) as u32, packed as u32) {
+        (0, length) => Ok(length as usize),
+        refusal => Err(refusal),
+    }
 }
 
 /// It brings its own work words.
@@ -19,8 +37,30 @@ pub fn shorten(card: &[u8], root: &[u8], out: &mut [u8]) -> Answer {
     let packed = unsafe {
         vegashol_shorten(card.as_ptr(), card.len(), root.as_ptr(), root.len(), out.as_mut_ptr(), out.len())
     };
-    match ((packed >> 32) as u32, packed as u32) {
-        (0, length) => Ok(length as usize),
-        refusal => Err(refusal),
-    }
+    unpacked(packed)
+}
+
+/// The same with a list. A refusal leaves `entries` as it was.
+pub fn shorten_places(
+    card: &[u8],
+    root: &[u8],
+    out: &mut [u8],
+    list: &mut [u32],
+    entries: &mut u32,
+) -> Answer {
+    // Nor does this one; the number of entries is the caller's own.
+    let packed = unsafe {
+        vegashol_shorten_places(
+            card.as_ptr(),
+            card.len(),
+            root.as_ptr(),
+            root.len(),
+            out.as_mut_ptr(),
+            out.len(),
+            list.as_mut_ptr(),
+            list.len(),
+            entries,
+        )
+    };
+    unpacked(packed)
 }

@@ -19,6 +19,20 @@ pub type Refusal = (u32, u32);
 /// The output's length or a refusal.
 pub type Answer = Result<usize, Refusal>;
 
+/// The output's length and how many entries its list of places has, or a refusal.
+pub type Listed = Result<(usize, usize), Refusal>;
+
+/// The second word of an entry. The first is the record's offset in the output.
+#[derive(Clone, Copy, Debug, PartialEq)]
+pub enum Mark {
+    /// The outermost synonym put around a path type.
+    Type = 1,
+    /// An Identifier put for a path expression.
+    Expr = 2,
+    /// A UseDecl put ahead of a body.
+    Use = 3,
+}
+
 /// Work words: fewer are refused, and the console's call brings so many.
 pub const WORDS: usize = 2048;
 pub const MOST_CARD: usize = 32768;
@@ -26,3 +40,6 @@ pub const MOST_ROOT: usize = 256;
 pub const MOST_PAIRS: usize = 512;
 /// No output is longer than so many times its card.
 pub const MOST_TIMES: usize = 42;
+/// No list has more entries: a path that is shortened takes 24 bytes of the card or more and has two at
+/// most, its own and a use's.
+pub const MOST_ENTRIES: usize = MOST_CARD / 24 * 2;

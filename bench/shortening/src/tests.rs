@@ -1,11 +1,12 @@
-//! What document 01 states of cards, the cases of TestApply, and random cards, for the two in Rust.
+//! What document 01 states of cards, the cases of TestApply, and random cards, for the two in Rust, all with
+//! lists of places too.
 use crate::cards::*;
 use crate::random::Cards;
 use crate::stated::{self, constants, short, wrapped};
-use crate::{tree, walk, Answer, MOST_TIMES, WORDS};
+use crate::{tree, walk, Answer, Listed, MOST_TIMES, WORDS};
 use std::collections::BTreeSet;
 
-/// The answer of both, and the output.
+/// The answer of both, and the output. With a list they give the same, and the places of the changed points.
 fn shorten(card: &[u8], root: &[u8], lent: usize, words: usize) -> (Answer, Vec<u8>) {
     let [first, second] = [tree::shorten, walk::shorten].map(|shorten| {
         let mut out = vec![0xA5; lent];
@@ -15,7 +16,97 @@ fn shorten(card: &[u8], root: &[u8], lent: usize, words: usize) -> (Answer, Vec<
         (answer, out)
     });
     assert_eq!(first, second);
+    let (answer, output) = &first;
+    let places = answer.map_or(vec![], |_| places(card, output));
+    let most = places.len();
+    let bytes = answer.map_or(lent, |length| length + 3);
+    for lent in [most, most + 3, 0, most.saturating_sub(1), most.saturating_sub(2)] {
+        let short = answer.is_ok() && lent < most;
+        let due = if short { Err((10, 0)) } else { answer.map(|length| (length, most / 2)) };
+        let (answer, now, list) = with_list(card, root, bytes, words, lent);
+        assert_eq!(answer, due);
+        assert!(short || now == *output && list == places);
+    }
     first
+}
+
+/// The answer of both with a list of so many words, the output and the list's entries.
+fn with_list(
+    card: &[u8],
+    root: &[u8],
+    lent: usize,
+    words: usize,
+    list_lent: usize,
+) -> (Listed, Vec<u8>, Vec<u32>) {
+    let [first, second] = [tree::shorten_places, walk::shorten_places].map(|shorten| {
+        let (mut out, mut list) = (vec![0xA5; lent], vec![0xA5A5_A5A5; list_lent]);
+        let answer = shorten(card, root, &mut out, words, &mut list);
+        let (length, entries) = answer.unwrap_or((0, 0));
+        let (rest, words) = (out.split_off(length), list.split_off(2 * entries));
+        assert!(rest == vec![0xA5; rest.len()], "{answer:?} and other bytes behind");
+        assert!(words == vec![0xA5A5_A5A5; words.len()], "{answer:?} and other words behind");
+        (answer, out, list)
+    });
+    assert_eq!(first, second);
+    first
+}
+
+/// The list as document 01 has it, "Points and looking up": card and output side by side.
+fn places(card: &[u8], output: &[u8]) -> Vec<u32> {
+    let mut list = Vec::new();
+    side_by_side((card, 0), (output, 0), &mut list);
+    list
+}
+
+/// A record, by the bytes around it and its place there.
+type At<'b> = (&'b [u8], usize);
+
+fn side_by_side(old: At, new: At, list: &mut Vec<u32>) {
+    match (kind(old), kind(new)) {
+        (0x2D, 0x37) => list.extend([new.1 as u32, 1]),
+        (0x5C, 0x42) => list.extend([new.1 as u32, 2]),
+        (0x01 | 0x03, _) => assert_eq!(record_at(old), record_at(new)),
+        (0x60, 0x60) => {
+            let (old, new) = (inside(old), inside(new));
+            all_side_by_side(&old[..3], &new[..3], list);
+            let (old, new) = (inside(old[3]), inside(new[3]));
+            let (put, new) = new.split_at(new.len() - old.len());
+            for &it in put {
+                assert_eq!(kind(it), 0x6A);
+                list.extend([it.1 as u32, 3]);
+            }
+            all_side_by_side(&old, new, list);
+        }
+        (same, now) => {
+            assert_eq!(same, now);
+            all_side_by_side(&inside(old), &inside(new), list);
+        }
+    }
+}
+
+fn all_side_by_side(old: &[At], new: &[At], list: &mut Vec<u32>) {
+    assert_eq!(old.len(), new.len());
+    old.iter().zip(new).for_each(|(&old, &new)| side_by_side(old, new, list));
+}
+
+fn kind((bytes, at): At) -> u8 {
+    bytes[at + 4]
+}
+
+fn record_at((bytes, at): At<'_>) -> &[u8] {
+    let length = bytes[at..].first_chunk().map_or(0, |&length| u32::from_le_bytes(length));
+    &bytes[at..at + 4 + length as usize]
+}
+
+/// The records in this one.
+fn inside((bytes, at): At) -> Vec<At> {
+    let end = at + record_at((bytes, at)).len();
+    let (mut all, mut at) = (Vec::new(), at + 6);
+    while at < end {
+        all.push((bytes, at));
+        at += record_at((bytes, at)).len();
+    }
+    all
 }
 
 fn output(card: &[u8]) -> Vec<u8> {
@@ -86,6 +177,69 @@ fn stated_cards() {
         let due = (case.answer, case.output);
         assert_eq!(shorten(&case.card, &path("crate"), case.out, case.words), due, "{}", case.what);
     }
+}
+
+/// The list of a card under the root crate, in bytes lent as many as the output has.
+fn list_of(card: &[u8]) -> Vec<u32> {
+    let output = output(card);
+    let (answer, _, list) = with_list(card, &path("crate"), output.len(), WORDS, 100);
+    assert_eq!(answer, Ok((output.len(), list.len() / 2)));
+    list
+}
+
+/// Where bytes stand first in others.
+fn find(bytes: &[u8], of: &[u8]) -> u32 {
+    bytes.windows(of.len()).position(|part| part == of).unwrap() as u32
+}
+
+/// Offsets and marks, spelled out.
+#[test]
+fn lists() {
+    // P1, P2 and P3: nothing, and a use and a type.
+    assert_eq!(list_of(&extern_module("a")), []);
+    assert_eq!(list_of(&m(&[])), []);
+    let p3 = m(&[implementation(&[], ty("::B"), &[])]);
+    // Heads of Mod and body, three fields of Mod; the use; heads of ImplDecl and Impl, an empty list.
+    let (use_at, type_at) = (6 + 6 + (6 + 6 + 7), 31 + 38 + 18);
+    assert_eq!(list_of(&p3), [use_at, 3, type_at, 1]);
+    // Nothing of P5. The use ahead of P6's body, and one of its types.
+    assert_eq!(list_of(&m(&constants(&[ty("::a::X"), ty("::b::X")]))), []);
+    let p6 = m(&constants(&[ty("::dafny_runtime::X"), ty("::a::X")]));
+    let short_at = |card: &[u8], of: &str| find(&output(card), &short(of));
+    assert_eq!(list_of(&p6), [31, 3, short_at(&p6, "::dafny_runtime::X"), 1]);
+    // An expression with its mark, and the card's own use, which is the same as the one put.
+    let p8 = m(&[use_decl("::a::rd"), constant("k1", bool_type(), ex("::a::rd!"))]);
+    let value = record(0x42, &[text("rd!")]);
+    assert_eq!(list_of(&p8), [31, 3, find(&output(&p8), &value), 2]);
+    // Wrapped twice: the outer one.
+    let twice = wrapped("B", short("::B"));
+    let p11 = m(&[top_fn(function("f", &[], &[], list(&[record(0x2F, &[ty("::B")])]), none()))]);
+    assert_eq!(list_of(&p11), [31, 3, find(&output(&p11), &twice), 1]);
+    // A type in the card's own synonyms, whose display is the same.
+    let own = m(&constants(&[ty("::B"), wrapped("B", wrapped("B", ty("::B")))]));
+    let in_own = wrapped("B", wrapped("B", short("::B")));
+    let first = find(&output(&own), &short("::B"));
+    // Behind the outer two: a head and an Identifier each.
+    let second = find(&output(&own), &in_own) + 2 * (6 + 6 + 7);
+    assert_eq!(list_of(&own), [31, 3, first, 1, second, 1]);
+    // A use inside P13's nested module.
+    let p13 = m(&[nested(module("b", &constants(&[ty("crate::m::b::b::X"), ty("::c::Y")])))]);
+    let [put, x, y] = [use_decl("::c::Y"), short("crate::m::b::b::X"), short("::c::Y")];
+    assert_eq!(
+        list_of(&p13),
+        [(put, 3), (x, 1), (y, 1)].map(|(of, mark)| [find(&output(&p13), &of), mark]).as_flattened()
+    );
+}
+
+/// 10 comes after 9, and two words are due for each entry.
+#[test]
+fn short_lists() {
+    let p3 = m(&[implementation(&[], ty("::B"), &[])]);
+    let answer = |bytes, words| with_list(&p3, &path("crate"), bytes, WORDS, words).0;
+    assert_eq!(answer(136, 0), Err((9, 0)));
+    assert_eq!(answer(136, 4), Err((9, 0)));
+    assert_eq!([0, 1, 2, 3].map(|words| answer(137, words)), [Err((10, 0)); 4]);
+    assert_eq!([4, 5, 100].map(|words| answer(137, words)), [Ok((137, 2)); 3]);
 }
 
 /// A full table comes before too little room, an outer one before an inner.

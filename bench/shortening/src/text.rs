@@ -19,42 +19,128 @@ pub fn digits(bytes: &[u8]) -> String {
     bytes.iter().map(|b| format!("{b:02x}")).collect()
 }
 
-/// A line of the vectors: ROOT CARD OUTLEN WORKLEN = ANSWER.
+/// A line of the vectors: ROOT CARD OUTLEN WORKLEN = ANSWER; or, with a list of places,
+/// old ROOT CARD OUTLEN WORKLEN PLACES = ANSWER.
 pub struct Vector {
     pub root: Vec<u8>,
     pub card: Vec<u8>,
     /// How many bytes are lent, and how many words.
     pub out: usize,
     pub words: usize,
+    /// How many words of a list are lent, none where no list is.
+    pub lent: Option<usize>,
     pub answer: Answer,
-    /// Of an accepted card.
+    /// Of an accepted card, and the words of its list's entries.
     pub output: Vec<u8>,
+    pub list: Vec<u32>,
 }
 
-const FORM: &str = "ROOT CARD OUTLEN WORKLEN = ANSWER";
+type Fields<'l> = std::str::Split<'l, char>;
 
-fn vector(line: &str) -> Option<Vector> {
-    let (call, answer) = line.split_once(" = ")?;
-    let mut call = call.split(' ');
+/// What both forms have.
+fn without_list(call: &mut Fields, answer: &mut Fields) -> Option<Vector> {
     let root = bytes(call.next()?)?;
     let card = bytes(call.next()?)?;
     let out = call.next()?.parse().ok()?;
     let words = call.next()?.parse().ok()?;
-    let mut answer = answer.split(' ');
     let number = answer.next()?.parse().ok()?;
     let value = answer.next()?;
     let (answer, output) = match number {
         0 => (Ok(value.parse().ok()?), bytes(answer.next()?)?),
         _ => (Err((number, value.parse().ok()?)), Vec::new()),
     };
-    Some(Vector { root, card, out, words, answer, output })
+    Some(Vector { root, card, out, words, lent: None, answer, output, list: Vec::new() })
+}
+
+fn vector(line: &str) -> Option<Vector> {
+    let (call, answer) = line.split_once(" = ")?;
+    without_list(&mut call.split(' '), &mut answer.split(' '))
+}
+
+fn listed(line: &str) -> Option<Vector> {
+    let (call, answer) = line.strip_prefix("old ")?.split_once(" = ")?;
+    let (mut call, mut answer) = (call.split(' '), answer.split(' '));
+    let mut vector = without_list(&mut call, &mut answer)?;
+    vector.lent = match call.next()? {
+        "x" => None,
+        words => Some(words.parse().ok()?),
+    };
+    if vector.answer.is_ok() {
+        vector.list = match (vector.lent, answer.next()?, answer.next()?) {
+            (None, "x", "x") => Vec::new(),
+            (None, ..) => return None,
+            (Some(_), entries, list) => entries_of(entries.parse().ok()?, list)?,
+        };
+    }
+    Some(vector)
+}
+
+/// The words of so many entries, with commas, `-` for none.
+fn entries_of(entries: usize, list: &str) -> Option<Vec<u32>> {
+    let words: Vec<u32> = match list {
+        "-" => Vec::new(),
+        words => words.split(',').map(|word| word.parse().ok()).collect::<Option<_>>()?,
+    };
+    (words.len() == 2 * entries).then_some(words)
+}
+
+fn of_file(name: &str, of_line: fn(&str) -> Option<Vector>, form: &str) -> Result<Vec<Vector>, String> {
+    let text = std::fs::read_to_string(name).map_err(|e| format!("{name} can't be read: {e}"))?;
+    text.lines()
+        .enumerate()
+        .map(|(i, line)| of_line(line).ok_or_else(|| format!("line {} is no case: {form}", i + 1)))
+        .collect()
 }
 
 /// The vectors of a file, or what is wrong with it.
 pub fn vectors(name: &str) -> Result<Vec<Vector>, String> {
-    let text = std::fs::read_to_string(name).map_err(|e| format!("{name} can't be read: {e}"))?;
-    text.lines()
-        .enumerate()
-        .map(|(i, line)| vector(line).ok_or_else(|| format!("line {} is no case: {FORM}", i + 1)))
-        .collect()
+    of_file(name, vector, "ROOT CARD OUTLEN WORKLEN = ANSWER")
+}
+
+/// Those with lists of places.
+pub fn places(name: &str) -> Result<Vec<Vector>, String> {
+    of_file(name, listed, "old ROOT CARD OUTLEN WORKLEN PLACES = ANSWER")
+}
+
+#[cfg(test)]
+mod tests {
+    use super::*;
+
+    const CALL: &str = "old 020000001100 09000000610003000000010061 13 2048";
+
+    fn line(rest: &str) -> Option<Vector> {
+        listed(&format!("{CALL} {rest}"))
+    }
+
+    #[test]
+    fn lists() {
+        let v = line("7 = 0 3 010203 2 31,3,87,1").unwrap();
+        assert_eq!((v.root.len(), v.card.len(), v.out, v.words), (6, 13, 13, 2048));
+        assert_eq!((v.lent, v.answer), (Some(7), Ok(3)));
+        assert_eq!((v.output, v.list), (vec![1, 2, 3], vec![31, 3, 87, 1]));
+        let v = line("0 = 0 13 61 0 -").unwrap();
+        assert_eq!((v.lent, v.list), (Some(0), vec![]));
+        let v = line("x = 0 13 61 x x").unwrap();
+        assert_eq!((v.lent, v.answer, v.list), (None, Ok(13), vec![]));
+        let v = line("3 = 10 0").unwrap();
+        assert_eq!((v.lent, v.answer, v.output, v.list), (Some(3), Err((10, 0)), vec![], vec![]));
+    }
+
+    #[test]
+    fn no_cases() {
+        for rest in [
+            "= 10 0",
+            "7 = 0 3 010203",
+            "7 = 0 3 010203 2 31,3,87",
+            "7 = 0 3 010203 1 31,3,87,1",
+            "7 = 0 3 010203 2 31,3,87,",
+            "7 = 0 3 010203 x x",
+            "x = 0 3 010203 2 31,3,87,1",
+            "y = 10 0",
+        ] {
+            assert!(line(rest).is_none(), "{rest}");
+        }
+        assert!(vector(&format!("{CALL} x = 10 0")).is_none());
+        assert!(listed("020000001100 09000000610003000000010061 13 2048 = 9 0").is_none());
+    }
 }

@@ -2,7 +2,7 @@
 use Prim.Native.Nat.{ℕ, _+_, _*_, _%_}
 use Rattle.answers.specs.declared.Answer.{Answer}
 use Rattle.answers.specs.declared.Answer.the-variants.{Shortened, ShortWork, LongCard, BadRoot, ShortRecord, WrongKind, TooDeep}
-use Rattle.answers.specs.declared.Answer.the-variants.{LeftOver, FullTable, NoSpace}
+use Rattle.answers.specs.declared.Answer.the-variants.{LeftOver, FullTable, NoSpace, ShortList}
 
 abbrev pub number : Answer → ℕ
 number (Shortened length) = 0
@@ -15,6 +15,7 @@ number (TooDeep place) = 6
 number (LeftOver place) = 7
 number (FullTable place) = 8
 number NoSpace = 9
+number ShortList = 10
 
 -- the output's length, or the place
 abbrev pub value : Answer → ℕ
@@ -28,6 +29,7 @@ value (TooDeep place) = place
 value (LeftOver place) = place
 value (FullTable place) = place
 value NoSpace = 0
+value ShortList = 0
 
 -- one number of 64 bits: the number times 2 ^ 32, plus the length or place, whose lower 32 bits alone count
 unfoldable pub packed : Answer → ℕ

@@ -1,4 +1,4 @@
-// The answers of document 01, "The console's answers": a case for each row of its table, and acceptance.
+// The answers of document 01, "The console's answers", a case for each row of its table, and acceptance; and those that the requests of 02 add.
 ghost use mathlib.Core.Path.{_≡_};
 ghost use Rattle.answers.specs.Answers.{number as Answers·number, value as Answers·value, packed as Answers·packed};
 
@@ -15,6 +15,7 @@ pub enum Answer {
     LeftOver(usize),
     FullTable(usize),
     NoSpace,
+    ShortList,
 }
 
 // What reading says of bytes; it refuses by ShortRecord, WrongKind, TooDeep and LeftOver alone.
@@ -38,6 +39,7 @@ pub fn number(a: Answer) -> usize
         Answer::LeftOver(_) => 7,
         Answer::FullTable(_) => 8,
         Answer::NoSpace => 9,
+        Answer::ShortList => 10,
     }
 }
 
@@ -56,6 +58,7 @@ pub fn value(a: Answer) -> usize
         Answer::LeftOver(p) => p,
         Answer::FullTable(p) => p,
         Answer::NoSpace => 0,
+        Answer::ShortList => 0,
     }
 }
 

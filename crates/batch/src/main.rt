@@ -1,7 +1,9 @@
 // Answers cases on standard input, line by line, ROOT CARD OUTLEN WORKLEN: the root's and the card's bytes in hexadecimal, - for none, and how many
 // bytes of out buffer and work words are lent; what stands from ` = ` on is passed over. Writes a line for each: `0 LENGTH BYTES`, or a refusal's
-// number and place.
+// number and place. A line `old ROOT CARD OUTLEN WORKLEN PLACES` also lends a list of so many words, or none where PLACES is x; its acceptance ends in the
+// number of entries and the list, or in `x x`.
 mod memory;
+mod places;
 
 use answers::Answer;
 use libc::STDERR_FILENO;
@@ -41,19 +43,24 @@ fn say(text: &[u8]) {
     io::write_all(STDOUT_FILENO, text);
 }
 
-// The answer, where the lent memory is as it promises.
-fn say_answer(a: Answer, out: &[u8], work: &[u32]) {
+// An acceptance, as far as its bytes go.
+fn say_output(out: &[u8], n: usize) {
+    say(b"0 ");
+    io::print_decimal(STDOUT_FILENO, n as u64);
+    say(b" ");
+    test_input::say_bytes(wire::part(out, 0, n));
+}
+
+// The answer, where the lent memory is as it promises; an acceptance ends so.
+fn say_answer(a: Answer, out: &[u8], work: &[u32], end: &[u8]) {
     if !memory::is_kept(a, out, work) {
         say(b"broken promise: the out buffer or the work words are not as they should be\n");
         return;
     }
     match a {
         Answer::Shortened(n) => {
-            say(b"0 ");
-            io::print_decimal(STDOUT_FILENO, n as u64);
-            say(b" ");
-            test_input::say_bytes(wire::part(out, 0, n));
-            say(b"\n");
+            say_output(out, n);
+            say(end);
         }
         _ => test_input::say_refusal(a),
     }
@@ -81,7 +88,7 @@ fn is_same_alone(card: &[u8], root: &[u8], a: Answer, out: &[u8], own: &mut [u8]
     answers::packed(a) == answers::packed(b) && wire::same(out, wire::part(own, 0, n))
 }
 
-fn answer(card: &[u8], root: &[u8], out: &mut [u8], work: &mut [u32]) {
+fn answer(card: &[u8], root: &[u8], out: &mut [u8], work: &mut [u32], end: &[u8]) {
     memory::fill(out);
     memory::fill_words(work);
     let a = shortening::shorten(card, root, out, work);
@@ -92,14 +99,22 @@ fn answer(card: &[u8], root: &[u8], out: &mut [u8], work: &mut [u32]) {
             return;
         }
     }
-    say_answer(a, out, work);
+    say_answer(a, out, work, end);
 }
 
 // With so much lent, or all there is.
-fn lend(card: &[u8], root: &[u8], out: &mut [u8], bytes: usize, work: &mut [u32], words: usize) {
+fn lend(
+    card: &[u8],
+    root: &[u8],
+    out: &mut [u8],
+    bytes: usize,
+    work: &mut [u32],
+    words: usize,
+    end: &[u8],
+) {
     let n = least(bytes, out.len());
     let m = least(words, work.len());
-    answer(card, root, &mut out[..n], &mut work[..m]);
+    answer(card, root, &mut out[..n], &mut work[..m], end);
 }
 
 // What stands ahead of ` = `, or all.
@@ -114,20 +129,23 @@ fn asked(line: &[u8]) -> &[u8] {
     line
 }
 
-// One case.
-fn case(line: &[u8], out: &mut [u8], work: &mut [u32]) {
-    let question = asked(line);
+// Whether the fields that every case has say bytes twice and a number twice.
+fn are_fields(root: &[u8], card: &[u8], bytes: &[u8], words: &[u8]) -> bool {
+    test_text::is_hex(root)
+        && test_text::is_hex(card)
+        && test_text::is_number(bytes)
+        && test_text::is_number(words)
+}
+
+// One case without a list.
+fn plain_case(question: &[u8], out: &mut [u8], work: &mut [u32]) {
     let rest = test_text::beyond(question, b' ');
     let sizes = test_text::beyond(rest, b' ');
     let first = test_text::until(question, b' ');
     let second = test_text::until(rest, b' ');
     let third = test_text::until(sizes, b' ');
     let fourth = test_text::beyond(sizes, b' ');
-    if !test_text::is_hex(first)
-        || !test_text::is_hex(second)
-        || !test_text::is_number(third)
-        || !test_text::is_number(fourth)
-    {
+    if !are_fields(first, second, third, fourth) {
         say(
             b"no case: write ROOT CARD OUTLEN WORKLEN in less than 262144 characters, the first two in hexadecimal, - for no bytes\n",
         );
@@ -144,7 +162,61 @@ fn case(line: &[u8], out: &mut [u8], work: &mut [u32]) {
         test_text::decimal(third),
         work,
         test_text::decimal(fourth),
+        b"\n",
     );
+}
+
+// One case with a list, or with x for none.
+fn list_case(question: &[u8], out: &mut [u8], work: &mut [u32]) {
+    let rest = test_text::beyond(question, b' ');
+    let sizes = test_text::beyond(rest, b' ');
+    let words = test_text::beyond(sizes, b' ');
+    let first = test_text::until(question, b' ');
+    let second = test_text::until(rest, b' ');
+    let third = test_text::until(sizes, b' ');
+    let fourth = test_text::until(words, b' ');
+    let fifth = test_text::beyond(words, b' ');
+    let none = wire::same(fifth, b"x");
+    if !are_fields(first, second, third, fourth) || !none && !test_text::is_number(fifth) {
+        say(
+            b"no case: write old ROOT CARD OUTLEN WORKLEN PLACES in less than 262144 characters, PLACES a number of words or x for no list\n",
+        );
+        return;
+    }
+    let mut root = field_room();
+    let mut card = field_room();
+    let n = test_text::decode(first, &mut root);
+    let m = test_text::decode(second, &mut card);
+    if none {
+        lend(
+            wire::part(&card, 0, m),
+            wire::part(&root, 0, n),
+            out,
+            test_text::decimal(third),
+            work,
+            test_text::decimal(fourth),
+            b" x x\n",
+        );
+        return;
+    }
+    places::lend(
+        wire::part(&card, 0, m),
+        wire::part(&root, 0, n),
+        out,
+        test_text::decimal(third),
+        work,
+        test_text::decimal(fourth),
+        test_text::decimal(fifth),
+    );
+}
+
+fn case(line: &[u8], out: &mut [u8], work: &mut [u32]) {
+    let question = asked(line);
+    if wire::same(wire::part(question, 0, 4), b"old ") {
+        list_case(wire::part(question, 4, question.len()), out, work);
+        return;
+    }
+    plain_case(question, out, work);
 }
 
 // The whole lines at the front of the text, one after the other; answers where the rest starts.

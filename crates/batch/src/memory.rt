@@ -37,8 +37,9 @@ fn is_left(out: &[u8], from: usize) -> bool {
     true
 }
 
-fn words_are_left(work: &[u32]) -> bool {
-    let mut i = 0;
+// Whether words are as they were filled, from a place on.
+fn words_are_left(work: &[u32], from: usize) -> bool {
+    let mut i = from;
     while i < work.len() {
         if work[i] != word_mark(i) {
             return false;
@@ -65,6 +66,29 @@ pub fn is_kept(a: Answer, out: &[u8], work: &[u32]) -> bool {
         Answer::Shortened(n) => n <= out.len() && is_left(out, n) && are_zero(work),
         Answer::FullTable(_) => is_left(out, 0) && are_zero(work),
         Answer::NoSpace => is_left(out, 0) && are_zero(work),
-        _ => is_left(out, 0) && words_are_left(work),
+        Answer::ShortList => is_left(out, 0) && are_zero(work),
+        _ => is_left(out, 0) && words_are_left(work, 0),
     }
+}
+
+// Whether a list is: a refusal leaves it and says no entries, and else what stands behind the entries is left.
+pub fn is_list_kept(a: Answer, entries: usize, list: &[u32]) -> bool {
+    match a {
+        Answer::Shortened(_) => entries <= list.len() / 2 && words_are_left(list, entries * 2),
+        _ => entries == 0 && words_are_left(list, 0),
+    }
+}
+
+pub fn same_words(a: &[u32], b: &[u32]) -> bool {
+    if a.len() != b.len() {
+        return false;
+    }
+    let mut i = 0;
+    while i < a.len() {
+        if a[i] != b[i] {
+            return false;
+        }
+        i += 1;
+    }
+    true
 }

@@ -16,7 +16,7 @@ use Rattle.rast.specs.Final.{isAmong, finalPath}
 use Rattle.rast.proofs.Tests.{by-test}
 use Rattle.rast.proofs.Names.{turned}
 use Rattle.operation.specs.declared.Shortening.{Shortening}
-use Rattle.operation.specs.declared.Shortening.the-variants.{Upstream}
+use Rattle.operation.specs.declared.Shortening.the-variants.{Upstream, Weighed}
 use Rattle.operation.specs.Operations.{operationOf, samePaths}
 use Rattle.prefix.specs.Prefix.{Scope, prefixIn}
 use Rattle.comparing.specs.Compares.{placeIn, baseAt, sameBase}
@@ -42,6 +42,7 @@ Run = encode «dafny_runtime»
 choice-one : (op : Shortening) (prefix b : Bytes) → choice op prefix (b ∷ []) ≡ some b
 unfolding choice finalPath
 choice-one Upstream prefix b = refl
+choice-one Weighed prefix b = refl
 
 choice-several : (op : Shortening) (prefix : Bytes) (bs : List Bytes) → 1 < length bs
     → choice op prefix bs ≡ cond (isAmong (samePaths op) prefix bs) (some prefix) (cond (isAmong (samePaths op) Run bs) (some Run) none)
@@ -49,10 +50,14 @@ unfolding choice finalPath
 choice-several Upstream prefix bs h =
     rw (ne-eqb (length bs) 1 (λ e. omega arith))
     (by-test (isAmong sameBytes prefix bs) (λ t. rw t) (λ t. rw t (by-test (isAmong sameBytes Run bs) (λ u. rw u) (λ u. rw u))))
+choice-several Weighed prefix bs h =
+    rw (ne-eqb (length bs) 1 (λ e. omega arith))
+    (by-test (isAmong sameBytes prefix bs) (λ t. rw t) (λ t. rw t (by-test (isAmong sameBytes Run bs) (λ u. rw u) (λ u. rw u))))
 
 -- bases that are the same are the same bytes
 paths-equal : (op : Shortening) (a b : Bytes) → samePaths op a b ≡ true → a ≡ b
 paths-equal Upstream a b h = sameBytes-true a b h
+paths-equal Weighed a b h = sameBytes-true a b h
 
 -- compared with the prefix, a word's upper half does not matter
 pub same-prefix : (s : Scope) (w : ℕ) → sameBase s w 0 ≡ samePaths (s .op) (baseAt s (placeIn w)) (prefixIn s)

@@ -1,4 +1,5 @@
-// When two names are the same and when two bases are: asked here alone. And numbers that are the same where these are, to look them up by.
+// When two names are the same and when two bases are: asked here alone, and in every operation when their bytes are. And numbers that are the same where these
+// are, to look them up by.
 use operation::Shortening;
 ghost use mathlib.Core.Path.{_≡_};
 ghost use Prim.Native.Nat.{_<_, _^_};
@@ -38,26 +39,20 @@ fn hash_bytes(s: &[u8]) -> usize
 pub fn hash(op: Shortening, name: &[u8]) -> usize
     ensures { λ r. ⌜ (r ≡ Compares·hash op (now (name .entry))) × (r < 2 ^ 32) ⌝ }
 {
-    match op {
-        Shortening::Upstream => hash_bytes(name) * 1831565813 % 4294967296,
-    }
+    hash_bytes(name) * 1831565813 % 4294967296
 }
 
 pub fn same_name(op: Shortening, a: &[u8], b: &[u8]) -> bool
     ensures { λ r. ⌜ r ≡ operationOf op .sameName (now (a .entry)) (now (b .entry)) ⌝ }
 {
-    match op {
-        Shortening::Upstream => wire::same(a, b),
-    }
+    wire::same(a, b)
 }
 
 // Two paths, by their records.
 fn same_path(op: Shortening, a: &[u8], b: &[u8]) -> bool
     ensures { λ r. ⌜ r ≡ samePaths op (now (a .entry)) (now (b .entry)) ⌝ }
 {
-    match op {
-        Shortening::Upstream => wire::same(a, b),
-    }
+    wire::same(a, b)
 }
 
 // A base as a word: its place in the card, or 0 for the prefix, and above it a number that is the same for paths that are the same.

@@ -1,2 +1,3 @@
 pub mod Packs
+pub mod PacksPlaces
 pub mod Plain

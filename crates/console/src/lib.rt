@@ -1,6 +1,7 @@
-// The call for the console's editor, a host in Rust: numbers and byte slices alone.
+// The calls for the console's editor, a host in Rust, and for its screen: numbers and slices alone.
 ghost use mathlib.Core.Path.{_≡_};
 ghost use Rattle.console.specs.Packed.{PackedPromise};
+ghost use Rattle.console.specs.PackedPlaces.{PackedPlaces};
 
 // The refusal's number times 2 ^ 32, plus the output's length or the place. The work words are its own.
 #[no_mangle]
@@ -8,4 +9,25 @@ pub extern "C" fn vegashol_shorten(card: &[u8], root: &[u8], out: &mut [u8]) -> 
     ensures { λ r. ⌜ PackedPromise (now (card .entry)) (now (root .entry)) (now (out .entry)) r (now (out .exit)) ⌝ }
 {
     answers::packed(shortening::shorten_alone(card, root, out))
+}
+
+// The same with a list of places. The number of its entries is put into a lent word, which a refusal leaves.
+#[no_mangle]
+pub extern "C" fn vegashol_shorten_places(
+    card: &[u8],
+    root: &[u8],
+    out: &mut [u8],
+    list: &mut [u32],
+    entries: &mut u32,
+) -> u64
+    ensures { λ r. ⌜ PackedPlaces (now (card .entry)) (now (root .entry)) (now (out .entry)) (now (list .entry)) (now (entries .entry))
+        r (now (out .exit)) (now (list .exit)) (now (entries .exit)) ⌝ }
+{
+    let r = shortening_places::shorten_places_alone(card, root, out, list);
+    let a = r.answer;
+    if 0 < answers::number(a) {
+        return answers::packed(a);
+    }
+    *entries = r.entries as u32;
+    answers::packed(a)
 }

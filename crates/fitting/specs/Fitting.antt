@@ -5,13 +5,13 @@ use Prim.Native.Nat.{ℕ, zero, suc, _+_, _*_, _/_}
 use lib.ListN.{length, drop, getD}
 use lib.Dec.{eqb, leb, ltb}
 use Rattle.wire.specs.Numbers.{Bytes}
-use Rattle.records.specs.Record.{lengthOf, kindOf, contentOf, restOf}
+use Rattle.records.specs.Record.{lengthOf, kindOf}
 use Rattle.prefix.specs.Prefix.{Scope}
 use Rattle.comparing.specs.Compares.{placeIn}
 use Rattle.chains.specs.Chains.{room, wordAt}
 use Rattle.adding.specs.Adds.{Table}
 use Rattle.adding.specs.Settles.{ownWords}
-use Rattle.rewriting.specs.Rewrites.{partsOf}
+use Rattle.rewriting.specs.Rewrites.{partsOf, bodyOf}
 use Rattle.growth.specs.Grows.{cardGrowth}
 
 -- by the card's length alone: an output is at most 42 times as long as its card, and a pair takes 18 bytes of a card
@@ -22,10 +22,6 @@ surelyFits card out words = leb (42 * length card) (length out) && leb (length c
 unfoldable pub areFew : ℕ → List Bytes → Bool
 areFew most [] = true
 areFew most (d ∷ ds) = cond (eqb (kindOf d) 0x62 && ltb most (length d / 18)) false (areFew most ds)
-
--- the declarations of a card that is a Mod: the content of its fourth field
-abbrev pub bodyOf : Bytes → Bytes
-bodyOf card = contentOf (restOf (restOf (restOf (contentOf card))))
 
 unfoldable pub nestedFew : Bytes → ℕ → Bool
 nestedFew card most = areFew most (partsOf (bodyOf card))

@@ -1,13 +1,13 @@
 -- THE TABLE'S ANSWERS IN THE TEXT'S TERMS: of a table that means a module's mapping, the pair chosen for a name has the base of ToFinalReplacement, a name is
 -- replaced where that base is its path's, and the uses are ToUseStatements, in order. Assumes nothing.
-use mathlib.Core.Path.{_≡_, refl, sym, ap, _∙_}
+use mathlib.Core.Path.{_≡_, refl, sym, ap, _∙_, subst}
 use mathlib.Core.List.{List}
 use mathlib.Core.Bool.{Bool, false}
 use mathlib.Core.Option.{Option, none, some}
 use Prim.Native.Nat.{ℕ, _≤_}
 use lib.ListN.{length}
 use Rattle.wire.specs.Numbers.{Bytes}
-use Rattle.records.specs.Record.{encode, encodeAll}
+use Rattle.records.specs.Record.{encode}
 use Rattle.records.specs.Canonical.{Canonical}
 use Rattle.rast.specs.Path.{Name, Path, whether}
 use Rattle.rast.specs.Operation.{Operation}
@@ -19,9 +19,9 @@ use Rattle.operation.specs.Operations.{operationOf, samePaths}
 use Rattle.prefix.specs.Prefix.{Scope, prefixIn}
 use Rattle.chains.specs.Chains.{room}
 use Rattle.pairs.specs.Stored.{Stored}
-use Rattle.pairs.specs.Choice.{choice, basesNamed, uses, usesBytes}
+use Rattle.pairs.specs.Choice.{choice, basesNamed, uses}
 use Rattle.pairs.proofs.Bytes.{bytesIf, CanonicalIf, bases-same}
-use Rattle.pairs.proofs.Says.{chosen-says, uses-bytes, final-canonical}
+use Rattle.pairs.proofs.Says.{Declares, chosen-says, uses-says, final-canonical}
 use Rattle.adding.specs.Adds.{Table}
 use Rattle.adding.proofs.Stores.{has-fits}
 use Rattle.choosing.specs.Chooses.{chosenPair}
@@ -57,7 +57,8 @@ module _ (s : Scope) (t : Table) (m : Mapping) (tabled : Tabled s t m) (good : G
       go none h = refl
       go (some p) h = sym (bases-same (s .op) p b h c)
 
-  pub uses-final : encodeAll (ToUseStatements Op (m .keys) Final S) ≡ usesBytes (usesOf s (t .words) 0 (t .count))
+  pub uses-final : Declares (usesOf s (t .words) 0 (t .count)) (ToUseStatements Op (m .keys) Final S)
   uses-final =
-      uses-bytes (s .op) (tabled .pairs) m (tabled .means) good S canonical
-      ∙ sym (ap usesBytes (uses-has s t (tabled .pairs) (tabled .has) fits ∙ ap (λ (x : Bytes). uses (s .op) x (tabled .pairs)) prefix-is))
+      subst (λ (us : List Stored). Declares us (ToUseStatements Op (m .keys) Final S))
+      (sym (uses-has s t (tabled .pairs) (tabled .has) fits ∙ ap (λ (x : Bytes). uses (s .op) x (tabled .pairs)) prefix-is))
+      (uses-says (s .op) (tabled .pairs) m (tabled .means) good S canonical)

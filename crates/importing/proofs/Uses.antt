@@ -5,31 +5,32 @@ use mathlib.Core.Bool.{false, true≢false}
 use Prim.Native.Nat.{ℕ, zero, suc, _+_, _-_, _*_, _%_, _^_, _<_, _≤_, min}
 use native.Mathlib.Omega.{arith}
 use native.Mathlib.Numerals.{add-one}
-use lib.ListN.{length, take, drop, getD, length-append, length-take, length-drop}
+use lib.ListN.{length, take, drop, getD, replicate, length-append, length-take, length-drop}
 use lib.Dec.{eqb, ltb}
 use borrow.Author.Tests.{eq-eqb, ne-eqb, eqb-true, eqb-false, ltb-false}
 use Rattle.wire.specs.Numbers.{Bytes}
 use Rattle.records.specs.Record.{lengthOf, recordAt}
 use Rattle.rast.proofs.Tests.{by-test}
+use Rattle.operation.specs.Operations.{weightOf, weightBytes}
 use Rattle.prefix.specs.Prefix.{Scope}
 use Rattle.comparing.specs.Compares.{placeIn, baseAt, sameBase}
 use Rattle.comparing.proofs.Bases.{base-both-prefix}
 use Rattle.chains.specs.declared.Want.the-variants.{Named}
 use Rattle.chains.specs.Chains.{room, nameAt, wordAt, nextOf, isWanted, seek}
 use Rattle.pairs.specs.Stored.{Stored, stored}
-use Rattle.pairs.specs.Choice.{useBytes, usesBytes}
+use Rattle.pairs.specs.Choice.{useBytes}
 use Rattle.choosing.specs.Chooses.{chosenPair, usePair}
 use Rattle.choosing.specs.Picks.{usesOf}
 use Rattle.choosing.proofs.Tests.{chosen-room}
-use Rattle.laying.specs.Lays.{Laid}
-use Rattle.laying.proofs.Laws.{laid-none, laid-then}
+use Rattle.laying.specs.Lays.{lay, Laid}
+use Rattle.laying.proofs.Laws.{laid-none, laid-then, laid-zeros}
+use Rattle.rewriting.specs.Imports.{weighedUses}
 use Rattle.importing.proofs.Pieces.{use-length}
 
-bytes-append : (a b : List Stored) → usesBytes (a ++ b) ≡ usesBytes a ++ usesBytes b
-unfolding usesBytes
-bytes-append [] b = refl
-bytes-append (u ∷ a) b =
-    ap (λ (l : Bytes). useBytes u ++ l) (bytes-append a b) ∙ sym (append-assoc (useBytes u) (usesBytes a) (usesBytes b))
+bytes-append : (weight : Bytes) (a b : List Stored) → weighedUses weight (a ++ b) ≡ weighedUses weight a ++ weighedUses weight b
+unfolding weighedUses
+bytes-append weight [] b = refl
+bytes-append weight (u ∷ a) b = rw (bytes-append weight a b) (simp append-assoc)
 
 -- parts of a card are no longer than it
 part-length : (card : Bytes) (n at : ℕ) → length (take n (drop at card)) ≤ length card
@@ -93,11 +94,12 @@ module _ (s : Scope) (words : List ℕ) where
       (λ t. rw t h)
       (λ t. rw t (ap (λ (l : List Stored). Use i (usePair s words (suc i)) ∷ l) h))
 
-  pub uses-more : (n : ℕ) → usesBytes (usesOf s words 0 (suc n)) ≡ usesBytes (usesOf s words 0 n) ++ usesBytes (usesOf s words n 1)
-  uses-more n =
+  uses-more : (weight : Bytes) (n : ℕ)
+      → weighedUses weight (usesOf s words 0 (suc n)) ≡ weighedUses weight (usesOf s words 0 n) ++ weighedUses weight (usesOf s words n 1)
+  uses-more weight n =
       let e : 0 + n ≡ n = omega arith in
-      ap usesBytes (uses-last n 0 ∙ ap (λ (j : ℕ). usesOf s words 0 n ++ usesOf s words j 1) e)
-      ∙ bytes-append (usesOf s words 0 n) (usesOf s words n 1)
+      ap (weighedUses weight) (uses-last n 0 ∙ ap (λ (j : ℕ). usesOf s words 0 n ++ usesOf s words j 1) e)
+      ∙ bytes-append weight (usesOf s words 0 n) (usesOf s words n 1)
 
   -- each is shorter than 2 ^ 18
   module _ (h : length (s .card) ≤ 65536) where
@@ -111,29 +113,31 @@ module _ (s : Scope) (words : List ℕ) where
         let q = part-length (s .card) (4 + lengthOf (drop w (s .card))) w in
         rw (base-card (suc i) (usePair s words (suc i)) b) (omega arith)
 
-    pub uses-length : (n i : ℕ) → length (usesBytes (usesOf s words i n)) ≤ n * 262144
-    unfolding usesOf usesBytes
-    uses-length zero i = omega arith
-    uses-length (suc n) i =
-        let o = uses-length n (suc i) in
-        by-test (eqb (usePair s words (suc i)) 0)
-        (λ t. rw t (omega arith))
-        (λ t. let u = use-short i (eqb-false (usePair s words (suc i)) 0 t) in
-        let a = length-append (useBytes (Use i (usePair s words (suc i)))) (usesBytes (usesOf s words (suc i) n)) in
-        rw t (omega arith))
+    module _ (weight : Bytes) (k : length weight ≤ 2 ^ 24) where
+      uses-length : (n i : ℕ) → length (weighedUses weight (usesOf s words i n)) ≤ n * (262144 + 2 ^ 24)
+      unfolding usesOf weighedUses
+      uses-length zero i = omega arith
+      uses-length (suc n) i =
+          let o = uses-length n (suc i) in
+          by-test (eqb (usePair s words (suc i)) 0)
+          (λ t. rw t (omega arith))
+          (λ t. let u = use-short i (eqb-false (usePair s words (suc i)) 0 t) in
+          let a = length-append (useBytes (Use i (usePair s words (suc i)))) (weight ++ weighedUses weight (usesOf s words (suc i) n)) in
+          let b = length-append weight (weighedUses weight (usesOf s words (suc i) n)) in
+          rw t (omega arith))
 
-    -- so where they end is a place that fits
-    pub end-fits : (out : Bytes) (n p : ℕ) (o : Bytes) → n ≤ 65535 → Laid out 0 (usesBytes (usesOf s words 0 n)) p o → p ≤ 2 ^ 61
-    end-fits out n p o l d = omega (arith, d .ends, uses-length n 0)
+      -- so where they end is a place that fits
+      pub end-fits : (out : Bytes) (n p : ℕ) (o : Bytes) → n ≤ 65535 → Laid out 0 (weighedUses weight (usesOf s words 0 n)) p o → p ≤ 2 ^ 61
+      end-fits out n p o l d = omega (arith, d .ends, uses-length n 0)
 
   -- of one pair: what is laid, if it brings a use
   module _ (i c : ℕ) (e : c ≡ usePair s words (i + 1)) where
     pair-is : usePair s words (suc i) ≡ c
     pair-is = ap (usePair s words) (sym (add-one i)) ∙ sym e
 
-    pub one-none : (out : Bytes) (at : ℕ) → c ≡ 0 → Laid out at (usesBytes (usesOf s words i 1)) at out
-    unfolding usesOf usesBytes
-    one-none out at z = rw (pair-is, eq-eqb c 0 z) (laid-none out at)
+    pub one-none : (weight out : Bytes) (at : ℕ) → c ≡ 0 → Laid out at (weighedUses weight (usesOf s words i 1)) at out
+    unfolding usesOf weighedUses
+    one-none weight out at z = rw (pair-is, eq-eqb c 0 z) (laid-none out at)
 
     module _ (z : c ≡ 0 → ⊥) where
       one-brings : Brings s words (i + 1) c
@@ -150,14 +154,21 @@ module _ (s : Scope) (words : List ℕ) where
             let q = part-length (s .card) (4 + lengthOf (drop (w % 65536) (s .card))) (w % 65536) in
             (rw n (omega arith), rw b (omega arith))
 
-        pub one-use : (out : Bytes) (at end : ℕ) (after : Bytes) → Laid out at (useBytes (stored name base)) end after
-            → Laid out at (usesBytes (usesOf s words i 1)) end after
-        unfolding usesOf usesBytes
-        one-use out at end after d =
-            let k : stored name base ≡ Use i c = rw (n, f, g, b, h, base-card (i + 1) c one-brings) in
-            rw (pair-is, ne-eqb c 0 z, append-nil (useBytes (Use i c))) (subst (λ (u : Stored). Laid out at (useBytes u) end after) k d)
+        module _ (out : Bytes) (at end : ℕ) (o : Bytes) (d : Laid out at (useBytes (stored name base)) end o) where
+          pub one-end : length (s .card) ≤ 65536 → at ≤ 2 ^ 61 → end ≤ 2 ^ 62
+          one-end l k = let m = one-fits l in omega (arith, d .ends, use-length name base, m .0, m .1)
+
+          pub one-use : (v : ℕ) → v ≡ weightOf (s .op) → (after : Bytes) → after ≡ lay o end (replicate v 0)
+              → Laid out at (weighedUses (weightBytes (s .op)) (usesOf s words i 1)) (end + v) after
+          unfolding usesOf weighedUses weightBytes
+          one-use v t after y =
+              let k : stored name base ≡ Use i c = rw (n, f, g, b, h, base-card (i + 1) c one-brings) in
+              rw (pair-is, ne-eqb c 0 z, ← t, append-nil)
+              (subst (λ (u : Stored). Laid out at (useBytes u ++ replicate v 0) (end + v) after) k
+              (laid-zeros out at (useBytes (stored name base)) end o v after d y))
 
   -- one more behind those of n pairs
-  pub all-more : (out : Bytes) (n p : ℕ) (o₁ : Bytes) (e : ℕ) (o₂ : Bytes) → Laid out 0 (usesBytes (usesOf s words 0 n)) p o₁
-      → Laid o₁ p (usesBytes (usesOf s words n 1)) e o₂ → Laid out 0 (usesBytes (usesOf s words 0 (suc n))) e o₂
-  all-more out n p o₁ e o₂ x y = rw (uses-more n) (laid-then out 0 (usesBytes (usesOf s words 0 n)) p o₁ (usesBytes (usesOf s words n 1)) e o₂ x y)
+  pub all-more : (weight out : Bytes) (n p : ℕ) (o₁ : Bytes) (e : ℕ) (o₂ : Bytes) → Laid out 0 (weighedUses weight (usesOf s words 0 n)) p o₁
+      → Laid o₁ p (weighedUses weight (usesOf s words n 1)) e o₂ → Laid out 0 (weighedUses weight (usesOf s words 0 (suc n))) e o₂
+  all-more weight out n p o₁ e o₂ x y =
+      rw (uses-more weight n) (laid-then out 0 (weighedUses weight (usesOf s words 0 n)) p o₁ (weighedUses weight (usesOf s words n 1)) e o₂ x y)

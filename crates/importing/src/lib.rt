@@ -1,15 +1,15 @@
 // The uses put ahead of a module's body, in the order in which their names were first collected.
 use operation::Shortening;
-ghost use mathlib.Core.Path.{_≡_};
 ghost use Prim.Native.Nat.{_^_, _<_, _≤_};
 ghost use lib.ListN.{length};
 ghost use Rattle.records.specs.Record.{recordBytes};
+ghost use Rattle.operation.specs.Operations.{weightBytes};
 ghost use Rattle.prefix.specs.Prefix.{selection, scope};
 ghost use Rattle.pairs.specs.Stored.{stored};
-ghost use Rattle.pairs.specs.Choice.{useBytes, usesBytes};
+ghost use Rattle.pairs.specs.Choice.{useBytes};
 ghost use Rattle.choosing.specs.Picks.{usesOf};
 ghost use Rattle.laying.specs.Lays.{Laid};
-ghost use Rattle.rewriting.specs.Imports.{importsBytes};
+ghost use Rattle.rewriting.specs.Imports.{weighedUses, importsBytes};
 
 // base.MSel(name). The base's bytes are those of its record in the card, ::dafny_runtime's too.
 fn write_selection(name: &[u8], base: &[u8], out: &mut [u8], at: usize) -> usize
@@ -38,7 +38,7 @@ fn write_use(name: &[u8], base: &[u8], out: &mut [u8], at: usize) -> usize
     write_selection(name, base, out, at + 19)
 }
 
-// The use that the pair which i pairs stand ahead of brings, if it brings one.
+// The use that the pair which i pairs stand ahead of brings, if it brings one, with its weight behind it.
 fn write_use_of(
     op: Shortening,
     card: &[u8],
@@ -50,7 +50,7 @@ fn write_use_of(
     at: usize,
 ) -> usize
     requires { ⌜ (length (now card) ≤ 65536) × (i < 65536) × (at ≤ 2 ^ 61) ⌝ }
-    ensures { λ e. ⌜ Laid (now (out .entry)) at (usesBytes (usesOf (scope op (now (card .entry)) (now (root .entry)) (now (chain .entry)))
+    ensures { λ e. ⌜ Laid (now (out .entry)) at (weighedUses (weightBytes op) (usesOf (scope op (now (card .entry)) (now (root .entry)) (now (chain .entry)))
         (now (work .entry)) i 1)) e (now (out .exit)) ⌝ }
 {
     let c = choosing::use_of(op, card, root, chain, work, i + 1);
@@ -61,7 +61,10 @@ fn write_use_of(
     let m = 4 * (c - 1) + 2;
     let name = wire::part(card, wire::word(work[k]) % 65536, wire::word(work[k + 1]));
     let base = reader::record_at(card, wire::word(work[m]) % 65536);
-    write_use(name, base, out, at)
+    let end = write_use(name, base, out, at);
+    let weight = operation::weight(op);
+    laying::lay_zeros(weight, out, end);
+    end + weight
 }
 
 // Those of n pairs, at the front of out; answers how long they are.

@@ -5,7 +5,7 @@ use Prim.Native.Nat.{ℕ, zero, suc, _+_, _<_, _≤_, _-_, _/_, _%_, min}
 use native.Mathlib.Nat.{zero-add, suc-add, le-of-suc-le-suc, not-suc-le-zero}
 use native.Mathlib.Numerals.{add-one}
 use native.Mathlib.Omega.{arith, min-cases}
-use lib.ListN.{length, set, take, drop, length-append, length-drop, length-set}
+use lib.ListN.{length, set, take, drop, replicate, length-append, length-drop, length-set, length-replicate}
 use lib.Seq.{drop-length, sets}
 use Rattle.wire.specs.Numbers.{Bytes, le}
 use Rattle.records.specs.Record.{recordBytes}
@@ -95,6 +95,12 @@ laid-then out at a p o₁ b e o₂ x y = record {
   ends = rw (length-append a b) (omega (arith, x .ends, y .ends));
   bytes = y .bytes ∙ rw (x .bytes, x .ends) (lay-behind out at a b);
 }
+
+-- so many zeros behind a piece
+pub laid-zeros : (out : Bytes) (at : ℕ) (a : Bytes) (p : ℕ) (o₁ : Bytes) (n : ℕ) (o₂ : Bytes)
+    → Laid out at a p o₁ → o₂ ≡ lay o₁ p (replicate n 0) → Laid out at (a ++ replicate n 0) (p + n) o₂
+laid-zeros out at a p o₁ n o₂ x e =
+    laid-then out at a p o₁ (replicate n 0) (p + n) o₂ x (record { ends = ap (λ (m : ℕ). p + m) (sym (length-replicate n 0)); bytes = e })
 
 -- the six bytes of a head
 pub lay-six : (out after : Bytes) (at n k : ℕ) (b : Bytes) → b ≡ (n % 256 ∷ n / 256 % 256 ∷ n / 256 / 256 % 256 ∷ n / 256 / 256 / 256 % 256 ∷ k % 256 ∷ k / 256

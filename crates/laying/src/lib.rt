@@ -1,7 +1,7 @@
 // Bytes laid over the out buffer from a place on. What lies past its end is not written, so that a walk over an empty buffer measures.
 ghost use mathlib.Core.Path.{_≡_};
 ghost use Prim.Native.Nat.{_+_, _≤_, min};
-ghost use lib.ListN.{length};
+ghost use lib.ListN.{length, replicate};
 ghost use Rattle.laying.specs.Lays.{lay as Lays·lay, headBytes};
 
 // The lesser of two numbers.
@@ -25,6 +25,21 @@ pub fn lay(src: &[u8], out: &mut [u8], at: usize)
     while i < n {
         out[at + i] = src[i];
         i += 1;
+    }
+}
+
+// So many zero bytes.
+pub fn lay_zeros(n: usize, out: &mut [u8], at: usize)
+    ensures { λ _. ⌜ now (out .exit) ≡ Lays·lay (now (out .entry)) at (replicate n 0) ⌝ }
+{
+    if out.len() <= at {
+        return;
+    }
+    let m = least(n, out.len() - at);
+    let mut j = 0;
+    while j < m {
+        out[at + j] = 0;
+        j += 1;
     }
 }
 

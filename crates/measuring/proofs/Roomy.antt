@@ -24,16 +24,16 @@ use Rattle.outcome.proofs.Accepted.{admitted-sound}
 use Rattle.outcome.proofs.Full.{inDecl}
 use Rattle.outcome.proofs.Few.{declared-few, apart-none}
 use Rattle.operation.specs.declared.Shortening.{Shortening}
-use Rattle.operation.specs.declared.Shortening.the-variants.{Upstream}
-use Rattle.operation.specs.Operations.{operationOf}
+use Rattle.operation.specs.declared.Shortening.the-variants.{Upstream, Weighed}
+use Rattle.operation.specs.Operations.{operationOf, weightOf}
 use Rattle.chains.specs.Chains.{room}
 use Rattle.adding.specs.Adds.{Table}
 use Rattle.adding.specs.Settles.{ownWords}
-use Rattle.rewriting.specs.Rewrites.{partsOf}
+use Rattle.rewriting.specs.Rewrites.{partsOf, bodyOf}
 use Rattle.rewriting.proofs.Parts.{encodeEach, parts-all}
 use Rattle.growth.specs.Grows.{cardGrowth}
 use Rattle.growth.proofs.Grown.{card-grows}
-use Rattle.fitting.specs.Fitting.{areFew, bodyOf, nestedFew, usesMost, isRoomy}
+use Rattle.fitting.specs.Fitting.{areFew, nestedFew, usesMost, isRoomy}
 use Rattle.rewriting.proofs.Walks.{alone-kind, alone-content}
 use Rattle.modules.proofs.Contents.{mod-content, body-is}
 use Rattle.modules.proofs.Outermost.{Prefix, Own, Reads, admitted-reads}
@@ -86,12 +86,13 @@ module _ (op : Shortening) (card root : Bytes) (n : ℕ) (sound : admitted (oper
       bodyIn′ : Bytes → Bytes
       bodyIn′ c = contentOf (restOf (restOf (restOf c)))
 
-  grows : (op : Shortening) → admitted (operationOf op) card root n ≡ Sound → length card ≤ 65536
+  grows : (op : Shortening) → weightOf op ≡ 0 → admitted (operationOf op) card root n ≡ Sound → length card ≤ 65536
       → length (encode (apply (operationOf op) (tree root) (tree card)))
       ≤ length card + cardGrowth op card + length (encodeAll (imports (operationOf op) (tree card) (Prefix card root)))
-  grows Upstream e l = card-grows (tree root) card (are-bytes card bc) (admitted-sound (operationOf Upstream) card root n e .card-sound) l
+  grows Weighed z e l = absurd (omega (arith, z))
+  grows Upstream z e l = card-grows (tree root) card (are-bytes card bc) (admitted-sound (operationOf Upstream) card root n e .card-sound) l
 
-  module _ (t : Table) (own : Own card root op t) (out : Bytes) (e : isRoomy (outermost op card root) (length out) t ≡ true) where
+  module _ (z : weightOf op ≡ 0) (t : Table) (own : Own card root op t) (out : Bytes) (e : isRoomy (outermost op card root) (length out) t ≡ true) where
     abbrev Most : ℕ
     Most = room (t .words)
 
@@ -118,7 +119,7 @@ module _ (op : Shortening) (card root : Bytes) (n : ℕ) (sound : admitted (oper
 
     pub roomy-fits : length (encode (apply (operationOf op) (tree root) (tree card))) ≤ length out
     roomy-fits =
-        let g = grows op sound (reads .small) in
-        let u = uses-fit op card root (operationOf op .rootDepth) reads t own (tests .0) in
+        let g = grows op z sound (reads .small) in
+        let u = uses-fit op card root (operationOf op .rootDepth) z reads t own (tests .0) in
         let b = tests .1 in
         omega arith

@@ -23,9 +23,11 @@ use Rattle.outcome.specs.FullTable.{fullTable}
 use Rattle.outcome.specs.Outcome.{admitted}
 use Rattle.outcome.proofs.Accepted.{admitted-sound}
 use Rattle.outcome.proofs.Few.{few-none}
+use Rattle.places.proofs.Weighed.{weighed, weightless}
 use Rattle.operation.specs.declared.Shortening.{Shortening}
-use Rattle.operation.specs.declared.Shortening.the-variants.{Upstream}
-use Rattle.operation.specs.Operations.{operationOf}
+use Rattle.operation.specs.declared.Shortening.the-variants.{Upstream, Weighed}
+use Rattle.operation.specs.Operations.{operationOf, weightOf, weightBytes}
+use Rattle.operation.proofs.Weights.{weight-none}
 use Rattle.chains.specs.Chains.{room}
 use Rattle.adding.specs.Adds.{Table, table}
 use Rattle.gathering.specs.Gathers.{span}
@@ -41,6 +43,7 @@ use Rattle.measuring.proofs.Roomy.{roomy-none, roomy-fits}
 -- each operation's outputs are at most 42 times their cards
 bounded : (op : Shortening) → Bounded (operationOf op)
 bounded Upstream = card-bound
+bounded Weighed = card-bound
 
 module _ (op : Shortening) (card root : Bytes) (n : ℕ) (sound : admitted (operationOf op) card root n ≡ Sound)
     (bc : (i : ℕ) → getD card i 0 < 256) (br : (i : ℕ) → getD root i 0 < 256) where
@@ -78,8 +81,12 @@ module _ (op : Shortening) (card root : Bytes) (n : ℕ) (sound : admitted (oper
     pub out-is : o .out ≡ OutAfter (room words) out
     pub words-long : length (o .words) ≡ length words
 
+  -- an operation without weights makes the output itself
+  unweighed : weightOf op ≡ 0 → weighed (weightBytes op) (tree card) (apply (operationOf op) (tree root) (tree card)) ≡ Bytes′
+  unweighed z = rw (weight-none op z) (weightless (tree card) (apply (operationOf op) (tree root) (tree card)))
+
   -- given whose table the words hold
-  module _ (owner : ℕ) (held : Table) (own : owner ≡ 0 → Own card root op held) where
+  module _ (z : weightOf op ≡ 0) (owner : ℕ) (held : Table) (own : owner ≡ 0 → Own card root op held) where
     abbrev Words : List ℕ
     Words = held .words
 
@@ -98,7 +105,7 @@ module _ (op : Shortening) (card root : Bytes) (n : ℕ) (sound : admitted (oper
     unfolding direct
     at-once out e fits =
         let zero-full : firstMade op card root owner held .full ≡ 0 = first .full ∙ ap (λ (x : Option ℕ). whether x 0 suc) e in
-        let b = first .bytes e in
+        let b = first .bytes e ∙ unweighed z in
         rw (zero-full, b)
         (record {
           answer-is = rw e;
@@ -114,8 +121,8 @@ module _ (op : Shortening) (card root : Bytes) (n : ℕ) (sound : admitted (oper
         go : (o : Option ℕ) → FullAt (room Words) ≡ o → Result Words out (inTwo op card root owner held out)
         go none e =
             let zero-full : firstMade op card root owner held .full ≡ 0 = first .full ∙ ap (λ (x : Option ℕ). whether x 0 suc) e in
-            let b = first .bytes e in
-            let b₂ = second .bytes e in
+            let b = first .bytes e ∙ unweighed z in
+            let b₂ = second .bytes e ∙ unweighed z in
             by-test (ltb (length out) (length Bytes′))
             (λ t. rw (zero-full, b, t) (record { answer-is = rw e; out-is = rw (e, t); words-long = first .long }))
             (λ t. rw (zero-full, b, t)
@@ -140,9 +147,9 @@ module _ (op : Shortening) (card root : Bytes) (n : ℕ) (sound : admitted (oper
       record { answer-is = rw m at (r .answer-is); out-is = rw m at (r .out-is); words-long = r .words-long ∙ e }
 
   -- THE LAW
-  pub whole-sound : (words : List ℕ) (out : Bytes) → Result words out (wholeOutput op card root words out)
+  pub whole-sound : weightOf op ≡ 0 → (words : List ℕ) (out : Bytes) → Result words out (wholeOutput op card root words out)
   unfolding wholeOutput
-  whole-sound words out = by-test (surelyFits card out words) (λ t. rw t (sure t)) (λ t. rw t (as-many (long-same words) other))
+  whole-sound z words out = by-test (surelyFits card out words) (λ t. rw t (sure t)) (λ t. rw t (as-many (long-same words) other))
     where
       mine : Own card root op (collected op card root words)
       mine = unfold collected in collected-own op card root n sound bc br words
@@ -152,7 +159,7 @@ module _ (op : Shortening) (card root : Bytes) (n : ℕ) (sound : admitted (oper
           let g = and-eq-true-iff (leb (42 * length card) (length out)) (leb (length card / 18) (room words)) .0 (unfold surelyFits in t) in
           let wide = leb-true (42 * length card) (length out) (g .0) in
           let bound = output-bounded in
-          at-once 65537 (table 0 words) (λ e. absurd (omega (arith, e))) out (few-full (room words) (leb-true (length card / 18) (room words) (g .1))) (omega
+          at-once z 65537 (table 0 words) (λ e. absurd (omega (arith, e))) out (few-full (room words) (leb-true (length card / 18) (room words) (g .1))) (omega
           arith)
 
       other : Result (collected op card root words .words) out
@@ -160,7 +167,7 @@ module _ (op : Shortening) (card root : Bytes) (n : ℕ) (sound : admitted (oper
           (inTwo op card root 0 (collected op card root words) out))
       other =
           by-test (isRoomy (outermost op card root) (length out) (collected op card root words))
-          (λ t. rw t (at-once 0 (collected op card root words) (λ e. mine) out
-          (roomy-none op card root n sound bc br (collected op card root words) mine out t)
-          (roomy-fits op card root n sound bc br (collected op card root words) mine out t)))
-          (λ t. rw t (in-two 0 (collected op card root words) (λ e. mine) out))
+          (λ t. rw t (at-once z 0 (collected op card root words) (λ e. mine) out
+          (roomy-none op card root n sound bc br z (collected op card root words) mine out t)
+          (roomy-fits op card root n sound bc br z (collected op card root words) mine out t)))
+          (λ t. rw t (in-two z 0 (collected op card root words) (λ e. mine) out))

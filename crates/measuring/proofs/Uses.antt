@@ -19,8 +19,8 @@ use Rattle.factor_paths.specs.Apply.{mappings, imports}
 use Rattle.size.proofs.Sizes.{size, encode-size, encodeAll-size}
 use Rattle.size.proofs.Mapped.{useSize, usesSize, mappingSize, add-size, use-most, imports-most}
 use Rattle.operation.specs.declared.Shortening.{Shortening}
-use Rattle.operation.specs.declared.Shortening.the-variants.{Upstream}
-use Rattle.operation.specs.Operations.{operationOf, samePaths}
+use Rattle.operation.specs.declared.Shortening.the-variants.{Upstream, Weighed}
+use Rattle.operation.specs.Operations.{operationOf, samePaths, weightOf}
 use Rattle.prefix.specs.Prefix.{Scope, prefixIn}
 use Rattle.comparing.specs.Compares.{placeIn, baseAt}
 use Rattle.chains.specs.Chains.{room, nameAt, wordAt}
@@ -104,9 +104,10 @@ module _ (S : Path) where
         rw (← h .is .added) (omega arith)
 
 -- THE LAW: the uses that a table of its own brings, if it is not full
-pub uses-fit : (op : Shortening) (card root : Bytes) (limit : ℕ) → Reads card root limit → (t : Table) → Own card root op t → t .count ≤ room (t .words)
+pub uses-fit : (op : Shortening) (card root : Bytes) (limit : ℕ) → weightOf op ≡ 0 → Reads card root limit → (t : Table) → Own card root op t → t .count ≤ room (t .words)
     → length (encodeAll (imports (operationOf op) (tree card) (Prefix card root))) ≤ usesMost card (ownWords t) (t .count)
-uses-fit Upstream card root limit reads t own r =
+uses-fit Weighed card root limit z reads t own r = absurd (omega (arith, z))
+uses-fit Upstream card root limit z reads t own r =
     let s = scopeAt Upstream card root [] 0 in
     let S = Prefix card root in
     let here = outermost-stands card root Upstream limit reads in

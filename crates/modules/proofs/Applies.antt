@@ -33,14 +33,16 @@ use Rattle.factor_paths.proofs.Visits.{mappings-good}
 use Rattle.factor_paths.proofs.Modules.{ModFields, mod-fields, module-walk, extern-walk}
 use Rattle.outcome.specs.FullTable.{fullTable}
 use Rattle.outcome.proofs.Few.{few-none}
+use Rattle.places.proofs.Weighed.{weighed, weighedAhead, weighed-self, mapped-count}
 use Rattle.operation.specs.declared.Shortening.{Shortening}
-use Rattle.operation.specs.Operations.{operationOf}
+use Rattle.operation.specs.Operations.{operationOf, weightBytes}
 use Rattle.operation.proofs.Lawful.{names-of}
 use Rattle.prefix.specs.Prefix.{Scope}
 use Rattle.chains.specs.Chains.{room}
 use Rattle.adding.specs.Adds.{Table, table}
 use Rattle.adding.specs.Settles.{ownWords, freeWords}
 use Rattle.fields.specs.Fields.{namePlace}
+use Rattle.choosing.specs.Picks.{usesOf}
 use Rattle.gathering.specs.Gathers.{span, gathered}
 use Rattle.gathering.specs.Tabled.{Tabled}
 use Rattle.gathering.proofs.Parts.{spansOf, spans-are}
@@ -51,10 +53,11 @@ use Rattle.tables.proofs.Owner.{owner-has}
 use Rattle.rewriting.specs.Imports.{importsBytes}
 use Rattle.rewriting.specs.Rewrites.{declaration}
 use Rattle.rewriting.proofs.Walks.{alone-kind, rewrite-walks}
+use Rattle.rewriting.proofs.Uses.{declares-weighed}
 use Rattle.modules.specs.Modules.{Made, made, nestedMade, savedMade, besideMade, innerMade, eachMade, modMade, declarationMade, bodyMade, moduleMade}
 use Rattle.modules.proofs.Keeps.{table-length, beside-length, held-length}
 use Rattle.modules.proofs.Inner.{ends-within, inner-prefix, inner-canonical}
-use Rattle.modules.proofs.Contents.{span-there, holds-one, one-ends, Mod, Ahead, mod-content, ahead-is, body-ends, body-starts, mod-whole}
+use Rattle.modules.proofs.Contents.{span-there, weighed-one, one-ends, Mod, Ahead, mod-content, ahead-is, body-ends, body-starts, mod-whole}
 use Rattle.modules.proofs.States.{found, Ready, settled-ready, Holds, holds-on, After, same, other, scopeAt, Stands, Applied, walked, Declared, Declares}
 use Rattle.modules.proofs.Each.{all-declared}
 
@@ -123,6 +126,9 @@ module _ (op : Shortening) (card root : Bytes) (small : length card ≤ 65536) (
   abbrev Most : ℕ
   Most = min (wide / 4) 65535
 
+  abbrev Z : Bytes
+  Z = weightBytes op
+
   room-is : (words : List ℕ) → length words ≡ wide → room words ≡ Most
   room-is words e = ap (λ (x : ℕ). min (x / 4) 65535) e
 
@@ -168,24 +174,25 @@ module _ (op : Shortening) (card root : Bytes) (small : length card ≤ 65536) (
       -- a declaration that holds no module
       plain-bytes : (d : Record) → Fits d (kinds 0x62 0x6A) → Canonical d → deep d ≤ suc depth → length (encode d) ≤ 65536 → (t : Table)
           → Ready Scoped t Mapped → length (t .words) ≡ wide
-          → declaration Scoped (ownWords t) (suc depth) (encode d) ≡ encode (walk Op (pathsToRemove Op m S) false 1 d)
+          → declaration Scoped (ownWords t) (suc depth) (encode d) ≡ weighed Z d (walk Op (pathsToRemove Op m S) false 1 d)
       unfolding declaration pathsToRemove
       plain-bytes d f h l b t ready w =
           let r = fits-room t ready w in
           let o = own-room t r in
           rw (le-ltb 65536 (length (encode d)) b, le-ltb 48 (suc depth) (omega arith))
           (rewrite-walks Scoped (table (t .count) (ownWords t)) Mapped (ready .tabled r) good (omega arith) S (here .prefixed) (here .prefix-is)
-          (suc depth) false 1 d (kinds 0x62 0x6A) f h l)
+          (suc depth) false 0 d (kinds 0x62 0x6A) f h l)
 
       -- the uses
       uses-bytes : (t : Table) → Ready Scoped t Mapped → length (t .words) ≡ wide
-          → importsBytes Scoped (ownWords t) (t .count) ≡ encodeAll (imports Op m S)
+          → importsBytes Scoped (ownWords t) (t .count) ≡ weighedAhead Z (imports Op m S)
       unfolding importsBytes imports pathsToRemove
       uses-bytes t ready w =
           let r = fits-room t ready w in
           let o = own-room t r in
           rw (le-ltb 65536 (length card) small, le-ltb (room (ownWords t)) (t .count) (omega arith))
-          (sym (uses-final Scoped (table (t .count) (ownWords t)) Mapped (ready .tabled r) good (omega arith) S (here .prefixed) (here .prefix-is)))
+          (declares-weighed Z (usesOf Scoped (ownWords t) 0 (t .count)) (imports Op m S)
+          (uses-final Scoped (table (t .count) (ownWords t)) Mapped (ready .tabled r) good (omega arith) S (here .prefixed) (here .prefix-is)))
 
       abbrev State : (to owner : ℕ) → Table → Type 0
       State to owner held = Holds Scoped at to Mapped owner held
@@ -252,7 +259,7 @@ module _ (op : Shortening) (card root : Bytes) (small : length card ≤ 65536) (
             let i = below wide n Chain (omega arith) (from + 6) q Prefix stands l k owner held w (λ z. absurd (omega arith)) in
             record {
               full = rw add-zero (i .full);
-              bytes = λ z. ap (recordBytes 0x62) (i .bytes (rw add-zero at z)) ∙ holds-one 0x62 (applyPrefix Op n q Prefix);
+              bytes = λ z. ap (recordBytes 0x62) (i .bytes (rw add-zero at z)) ∙ weighed-one Z 0x62 q (applyPrefix Op n q Prefix);
               words = i .words ∙ w;
               holds = rw e (nested-holds owner held s (Nested owner held) (i .after));
             }
@@ -270,7 +277,7 @@ module _ (op : Shortening) (card root : Bytes) (small : length card ≤ 65536) (
             let none-full = few-none Op Most n q Prefix (from + 6) f (let z : length (encode q) / 18 ≤ Most = omega arith in z) in
             record {
               full = rw add-zero (i .full ∙ ap found less ∙ sym (ap found none-full));
-              bytes = λ z. ap (recordBytes 0x62) (i .bytes less) ∙ holds-one 0x62 (applyPrefix Op n q Prefix);
+              bytes = λ z. ap (recordBytes 0x62) (i .bytes less) ∙ weighed-one Z 0x62 q (applyPrefix Op n q Prefix);
               words = w;
               holds = rw e (record { from = le-refl at; before = omega arith; tabled = λ z. t });
             }
@@ -391,8 +398,9 @@ module _ (op : Shortening) (card root : Bytes) (small : length card ≤ 65536) (
           bytes = λ z.
               ap₂ (λ (u v : Bytes). recordBytes 0x60 (Ahead d a t c ++ recordBytes 0x02 (u ++ v)))
               (uses-bytes depth n below chain fewer at This S here shallow few mine tabled x) (e .bytes (rw few at z))
-              ∙ mod-whole d a t (imports Op This S) (mapAll (walked op card root Most n chain at This S) c)
-              ∙ ap encode (sym (module-walk Op n S This fields));
+              ∙ mod-whole Z d a t (imports Op This S) c (mapAll (walked op card root Most n chain at This S) c)
+              (mapped-count (walked op card root Most n chain at This S) c)
+              ∙ ap (weighed Z This) (sym (module-walk Op n S This fields));
           words = e .words ∙ sym w;
           after = other (holds-on (at + length (encode This)) (let l = body-ends d a t c at in omega arith) (e .holds));
         }
@@ -443,7 +451,7 @@ module _ (op : Shortening) (card root : Bytes) (small : length card ≤ 65536) (
   left-applied n chain at m S f e owner held =
       record {
         full = rw (extern-none n m S at e);
-        bytes = λ z. ap encode (sym (extern-walk Op n S m f));
+        bytes = λ z. sym (weighed-self Z m) ∙ ap (weighed Z m) (sym (extern-walk Op n S m f));
         words = refl;
         after = same refl refl;
       }

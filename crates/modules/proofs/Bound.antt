@@ -15,14 +15,15 @@ use Rattle.records.specs.Reading.{short}
 use Rattle.records.proofs.Tree.{record-length}
 use Rattle.rast.proofs.Tests.{by-test, one-of}
 use Rattle.operation.specs.declared.Shortening.{Shortening}
-use Rattle.operation.specs.declared.Shortening.the-variants.{Upstream}
-use Rattle.operation.specs.Operations.{samePaths}
+use Rattle.operation.specs.declared.Shortening.the-variants.{Upstream, Weighed}
+use Rattle.operation.specs.Operations.{samePaths, weightBytes}
+use Rattle.operation.proofs.Weights.{weight-length, weight-small}
 use Rattle.prefix.specs.Prefix.{Scope, scope, selection}
 use Rattle.comparing.specs.Compares.{placeIn, baseAt, sameBase}
 use Rattle.chains.specs.declared.Want.the-variants.{Named}
 use Rattle.chains.specs.Chains.{room, nameAt, wordAt, nextOf, isWanted, seek}
 use Rattle.pairs.specs.Stored.{Stored, stored}
-use Rattle.pairs.specs.Choice.{useBytes, usesBytes}
+use Rattle.pairs.specs.Choice.{useBytes}
 use Rattle.adding.specs.Adds.{Table, table}
 use Rattle.adding.specs.Settles.{ownWords, freeWords}
 use Rattle.choosing.specs.Chooses.{chosenPair, usePair}
@@ -31,7 +32,7 @@ use Rattle.fields.specs.Fields.{namePlace}
 use Rattle.gathering.specs.Gathers.{Span, span, spansUpTo, spansIn}
 use Rattle.gathering.proofs.Spans.{between-length, span-fits}
 use Rattle.tables.specs.Tables.{tableOf, hasRoom, isSmall, lastWords}
-use Rattle.rewriting.specs.Imports.{importsBytes}
+use Rattle.rewriting.specs.Imports.{weighedUses, importsBytes}
 use Rattle.rewriting.specs.Rewrites.{declaration}
 use Rattle.rewriting.proofs.Lengths.{content-inside}
 use Rattle.rewriting.proofs.Bound.{rewrite-bound}
@@ -41,6 +42,7 @@ use Rattle.modules.specs.Modules.{declarationMade, bodyMade, moduleMade}
 -- the uses: each has a name and a base that stand in the card
 same-self : (op : Shortening) (x : Bytes) → samePaths op x x ≡ true
 same-self Upstream x = sameBytes-self x
+same-self Weighed x = sameBytes-self x
 
 part-fits : (n at : ℕ) (card : Bytes) → length (take n (drop at card)) ≤ length card
 part-fits n at card =
@@ -95,28 +97,34 @@ use-length u =
     omega arith
 
 module _ (s : Scope) (words : List ℕ) (small : length (s .card) ≤ 65536) where
+  abbrev Z : Bytes
+  Z = weightBytes (s .op)
+
   abbrev Use : ℕ → Stored
   Use i = stored (nameAt (s .card) words i) (baseAt s (placeIn (wordAt words (usePair s words (suc i) - 1))))
 
-  one-more : (i n : ℕ) (us : List Stored) → eqb (usePair s words (suc i)) 0 ≡ false → length (usesBytes us) ≤ n * 131103
-      → length (useBytes (Use i) ++ usesBytes us) ≤ suc n * 131103
+  one-more : (i n : ℕ) (us : List Stored) → eqb (usePair s words (suc i)) 0 ≡ false → length (weighedUses Z us) ≤ n * (2 ^ 24 + 131103)
+      → length (useBytes (Use i) ++ (Z ++ weighedUses Z us)) ≤ suc n * (2 ^ 24 + 131103)
   unfolding Brought
   one-more i n us t rest =
       let a = use-fits s words (suc i) t in
       let b = part-fits (getD words (4 * i + 1) 0) (getD words (4 * i) 0 % 65536) (s .card) in
       let c = use-length (Use i) in
-      let d = length-append (useBytes (Use i)) (usesBytes us) in
+      let d = length-append (useBytes (Use i)) (Z ++ weighedUses Z us) in
+      let e = length-append Z (weighedUses Z us) in
+      let f = weight-length (s .op) in
+      let g = weight-small (s .op) in
       omega arith
 
-  uses-bound : (i n : ℕ) → length (usesBytes (usesOf s words i n)) ≤ n * 131103
-  unfolding usesOf usesBytes
+  uses-bound : (i n : ℕ) → length (weighedUses Z (usesOf s words i n)) ≤ n * (2 ^ 24 + 131103)
+  unfolding usesOf weighedUses
   uses-bound i zero = omega arith
   uses-bound i (suc n) =
       let rest = uses-bound (suc i) n in
       by-test (eqb (usePair s words (suc i)) 0) (λ t. rw t (omega arith)) (λ t. rw t (one-more i n (usesOf s words (suc i) n) t rest))
 
   -- those of as many pairs as there is room for
-  pub imports-bound : (n : ℕ) → length (importsBytes s words n) ≤ 2 ^ 34
+  pub imports-bound : (n : ℕ) → length (importsBytes s words n) ≤ 2 ^ 42
   unfolding importsBytes
   imports-bound n =
       by-test (ltb 65536 (length (s .card)) || ltb (room words) n)
@@ -128,9 +136,9 @@ module _ (s : Scope) (words : List ℕ) (small : length (s .card) ≤ 65536) whe
 
 -- what is made of the records from one place to another, if each is made at most so many times as long
 module _ (card : Bytes) (f : Span → ℕ → Table → Made) (bound : (from to : ℕ) → from + 6 ≤ to → to ≤ length card → (owner : ℕ) (held : Table)
-    → length (f (span from to) owner held .bytes) ≤ (to - from) * 2 ^ 32) where
+    → length (f (span from to) owner held .bytes) ≤ (to - from) * 2 ^ 40) where
   upTo-bound : (n from to : ℕ) → to ≤ length card → (m : Made)
-      → length (eachMade f (spansUpTo card n from to) m .bytes) ≤ length (m .bytes) + (to - from) * 2 ^ 32
+      → length (eachMade f (spansUpTo card n from to) m .bytes) ≤ length (m .bytes) + (to - from) * 2 ^ 40
   unfolding spansUpTo eachMade behind
   upTo-bound zero from to h m = omega arith
   upTo-bound (suc n) from to h m =
@@ -147,7 +155,7 @@ module _ (card : Bytes) (f : Span → ℕ → Table → Made) (bound : (from to 
       omega arith))
 
   pub each-bound : (from to : ℕ) → to ≤ length card → (m : Made)
-      → length (eachMade f (spansIn card from to) m .bytes) ≤ length (m .bytes) + (to - from) * 2 ^ 32
+      → length (eachMade f (spansIn card from to) m .bytes) ≤ length (m .bytes) + (to - from) * 2 ^ 40
   unfolding spansIn
   each-bound from to h m = upTo-bound (to - from) from to h m
 
@@ -160,44 +168,44 @@ kind-long r h =
 module _ (op : Shortening) (card root : Bytes) (small : length card ≤ 65536) where
   abbrev Bounded : (List ℕ → Span → ℕ → Table → Made) → Type 0
   Bounded f = (chain : List ℕ) (from to : ℕ) → from ≤ to → to ≤ length card → (owner : ℕ) (held : Table)
-      → length (f chain (span from to) owner held .bytes) ≤ (to - from) * 2 ^ 32
+      → length (f chain (span from to) owner held .bytes) ≤ (to - from) * 2 ^ 40
 
   abbrev Most : ℕ → Made → Type 0
   Most n m = length (m .bytes) ≤ n
 
   declaration-short : (s : Scope) (words : List ℕ) (depth : ℕ) → depth ≤ 48 → (from to : ℕ) → from + 6 ≤ to
-      → length (declaration s words depth (between card from to)) ≤ (to - from) * 2 ^ 32
+      → length (declaration s words depth (between card from to)) ≤ (to - from) * 2 ^ 40
   unfolding declaration
   declaration-short s words depth d from to l =
       let r = between card from to in
       let i = rewrite-bound s words depth false 1 r (to - from) (omega arith) (between-length card from to) in
-      let m : (to - from) * (1 + 3 * (1 + depth)) ≤ (to - from) * 148 = mul-le-mul-left (to - from) (omega arith) in
-      one-of (λ (x : Bytes). length x ≤ (to - from) * 2 ^ 32) (ltb 65536 (length r) || ltb 48 depth) (omega arith) (omega arith)
+      let m : (to - from) * (2 ^ 24 + 1 + 3 * (1 + depth)) ≤ (to - from) * (2 ^ 24 + 148) = mul-le-mul-left (to - from) (omega arith) in
+      one-of (λ (x : Bytes). length x ≤ (to - from) * 2 ^ 40) (ltb 65536 (length r) || ltb 48 depth) (omega arith) (omega arith)
 
   module _ (f : List ℕ → Span → ℕ → Table → Made) (bounded : Bounded f) (depth : ℕ) (deep : depth ≤ 48) (chain : List ℕ) (at : ℕ) where
     pub inner-most : (from to : ℕ) → from + 6 ≤ to → to ≤ length card → (owner : ℕ) (held : Table)
-        → length (innerMade (f chain) at (span from to) owner held .bytes) ≤ (to - from) * 2 ^ 32
+        → length (innerMade (f chain) at (span from to) owner held .bytes) ≤ (to - from) * 2 ^ 40
     unfolding innerMade savedMade besideMade nestedMade
     inner-most from to l h owner held =
-        one-of (Most ((to - from) * 2 ^ 32)) (eqb owner at && isSmall held (to - from)) (nested 65537 (table 0 (lastWords held (to - from))))
-        (one-of (Most ((to - from) * 2 ^ 32)) (eqb owner at && hasRoom held (to - from)) (nested 65537 (table 0 (freeWords held))) (nested owner held))
+        one-of (Most ((to - from) * 2 ^ 40)) (eqb owner at && isSmall held (to - from)) (nested 65537 (table 0 (lastWords held (to - from))))
+        (one-of (Most ((to - from) * 2 ^ 40)) (eqb owner at && hasRoom held (to - from)) (nested 65537 (table 0 (freeWords held))) (nested owner held))
       where
-        nested : (o : ℕ) (t : Table) → length (recordBytes 0x62 (f chain (span (from + 6) to) o t .bytes)) ≤ (to - from) * 2 ^ 32
+        nested : (o : ℕ) (t : Table) → length (recordBytes 0x62 (f chain (span (from + 6) to) o t .bytes)) ≤ (to - from) * 2 ^ 40
         nested o t =
             let i = bounded chain (from + 6) to l h o t in
             let a = record-length 0x62 (f chain (span (from + 6) to) o t .bytes) in
             omega arith
 
     pub declaration-most : (from to : ℕ) → from + 6 ≤ to → to ≤ length card → (owner : ℕ) (held : Table)
-        → length (declarationMade op card root f depth chain at (span from to) owner held .bytes) ≤ (to - from) * 2 ^ 32
+        → length (declarationMade op card root f depth chain at (span from to) owner held .bytes) ≤ (to - from) * 2 ^ 40
     unfolding declarationMade
     declaration-most from to l h owner held =
-        one-of (Most ((to - from) * 2 ^ 32)) (eqb (kindOf (between card from to)) 0x62)
+        one-of (Most ((to - from) * 2 ^ 40)) (eqb (kindOf (between card from to)) 0x62)
         (inner-most from to l h owner held)
         (declaration-short (scope op card root chain) (ownWords (tableOf (scope op card root chain) depth at owner held)) depth deep from to l)
 
     pub body-most : (from to : ℕ) → to ≤ length card → (mine : Table)
-        → length (bodyMade op card root f depth chain at (span from to) mine .bytes) ≤ 6 + 2 ^ 34 + (to - (from + 6)) * 2 ^ 32
+        → length (bodyMade op card root f depth chain at (span from to) mine .bytes) ≤ 6 + 2 ^ 42 + (to - (from + 6)) * 2 ^ 40
     unfolding bodyMade
     body-most from to h mine =
         let uses = importsBytes (scope op card root chain) (ownWords mine) (mine .count) in
@@ -211,7 +219,7 @@ module _ (op : Shortening) (card root : Bytes) (small : length card ≤ 65536) w
   body-here : (f : List ℕ → Span → ℕ → Table → Made) → Bounded f → (depth : ℕ) → depth ≤ 48 → (chain : List ℕ) (at to : ℕ) → at ≤ to → to ≤ length card
       → (mine : Table) → 5 ≤ length (between card at to)
       → length (modMade (contentOf (between card at to))
-      (bodyMade op card root f depth chain at (span (at + 6 + length (aheadIn (contentOf (between card at to)))) to) mine) .bytes) ≤ (to - at) * 2 ^ 32
+      (bodyMade op card root f depth chain at (span (at + 6 + length (aheadIn (contentOf (between card at to)))) to) mine) .bytes) ≤ (to - at) * 2 ^ 40
   unfolding modMade
   body-here f bounded depth deep chain at to l h mine five =
       let r = between card at to in
@@ -228,7 +236,7 @@ module _ (op : Shortening) (card root : Bytes) (small : length card ≤ 65536) w
 
   -- THE LAW
   pub module-bound : (depth : ℕ) → depth ≤ 48 → (chain : List ℕ) (from to : ℕ) → from ≤ to → to ≤ length card → (owner : ℕ) (held : Table)
-      → length (moduleMade op card root depth chain (span from to) owner held .bytes) ≤ (to - from) * 2 ^ 32
+      → length (moduleMade op card root depth chain (span from to) owner held .bytes) ≤ (to - from) * 2 ^ 40
   unfolding moduleMade
   module-bound zero d chain from to l h owner held = let a = between-length card from to in omega arith
   module-bound (suc depth) d chain from to l h owner held =
@@ -238,24 +246,24 @@ module _ (op : Shortening) (card root : Bytes) (small : length card ≤ 65536) w
       let a = between-length card from to in
       by-test (eqb (kindOf r) 0x60)
       (λ t. rw t
-      (one-of (Most ((to - from) * 2 ^ 32)) (ltb (room (mine .words)) (mine .count)) (omega arith)
+      (one-of (Most ((to - from) * 2 ^ 40)) (ltb (room (mine .words)) (mine .count)) (omega arith)
       (body-here (moduleMade op card root depth) (module-bound depth (omega arith)) (suc depth) d inner from to l h mine (kind-long r t))))
       (λ t. rw t (omega arith))
 
   module _ (below : ℕ) (b : below ≤ 48) (depth : ℕ) (d : depth ≤ 48) (chain : List ℕ) (at : ℕ) where
     -- a declaration, those from one place to another, and a body, of a module whose modules go at most so deep
     pub declaration-bound : (from to : ℕ) → from + 6 ≤ to → to ≤ length card → (owner : ℕ) (held : Table)
-        → length (declarationMade op card root (moduleMade op card root below) depth chain at (span from to) owner held .bytes) ≤ (to - from) * 2 ^ 32
+        → length (declarationMade op card root (moduleMade op card root below) depth chain at (span from to) owner held .bytes) ≤ (to - from) * 2 ^ 40
     declaration-bound = declaration-most (moduleMade op card root below) (module-bound below b) depth d chain at
 
     pub declarations-bound : (from to : ℕ) → to ≤ length card → (m : Made)
         → length (eachMade (declarationMade op card root (moduleMade op card root below) depth chain at) (spansIn card from to) m .bytes)
-        ≤ length (m .bytes) + (to - from) * 2 ^ 32
+        ≤ length (m .bytes) + (to - from) * 2 ^ 40
     declarations-bound = each-bound card (declarationMade op card root (moduleMade op card root below) depth chain at) declaration-bound
 
     pub body-bound : (from to : ℕ) → to ≤ length card → (mine : Table)
         → length (bodyMade op card root (moduleMade op card root below) depth chain at (span from to) mine .bytes)
-        ≤ 6 + 2 ^ 34 + (to - (from + 6)) * 2 ^ 32
+        ≤ 6 + 2 ^ 42 + (to - (from + 6)) * 2 ^ 40
     body-bound = body-most (moduleMade op card root below) (module-bound below b) depth d chain at
 
   -- of any part of the card

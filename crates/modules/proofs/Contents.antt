@@ -1,32 +1,32 @@
 -- The bytes of a Mod: what stands ahead of its body, where its declarations start, and the Mod put together again. Assumes nothing.
-use mathlib.Core.Path.{_≡_, refl, ap, sym, _∙_}
+use mathlib.Core.Path.{_≡_, ap, sym, _∙_}
 use mathlib.Core.List.{_++_, append-assoc, append-nil}
 use Prim.Native.Nat.{ℕ, _+_, _-_}
 use native.Mathlib.Omega.{arith}
 use lib.ListN.{length, take, length-append}
 use lib.Seq.{take-at}
 use Rattle.wire.specs.Numbers.{Bytes, between}
-use Rattle.records.specs.Record.{Record, Records, node, nil, _▸_, _▸▸_, recordBytes, encode, encodeAll, contentOf, restOf, first, skip}
+use Rattle.records.specs.Record.{Record, Records, node, nil, _▸_, _▸▸_, recordBytes, encode, encodeAll, contentOf, restOf, count, first, skip}
 use Rattle.records.specs.Canonical.{Canonical}
 use Rattle.records.proofs.Tree.{record-length}
 use Rattle.records.proofs.Front.{encode-rest}
 use Rattle.records.proofs.Starts.{Starts, AllStart, starts-there, content-start, first-starts, skip-start}
 use Rattle.rewriting.proofs.Walks.{alone-content}
+use Rattle.places.proofs.Weighed.{weighed, weighedAll, weighedAhead, weighed-node, weighed-self, weighed-ahead}
 use Rattle.modules.specs.Modules.{bodyIn, aheadIn}
 
 -- a record's bytes alone, where it starts and ends
 pub span-there : {s : Bytes} {o : ℕ} {r : Record} → Starts s o r → between s o (o + length (encode r)) ≡ encode r
 span-there {s} {o} {r} p = let e : o + length (encode r) - o ≡ length (encode r) = omega arith in rw e (starts-there p)
 
-encode-append : (b c : Records) → encodeAll (b ▸▸ c) ≡ encodeAll b ++ encodeAll c
-unfolding encodeAll _▸▸_
-encode-append nil c = refl
-encode-append (r ▸ b) c = ap (λ (x : Bytes). encode r ++ x) (encode-append b c) ∙ sym (append-assoc (encode r) (encodeAll b) (encodeAll c))
-
 -- a record that holds one
 pub holds-one : (k : ℕ) (r : Record) → recordBytes k (encode r) ≡ encode (node k (r ▸ nil))
 unfolding encode
 holds-one k r = rw append-nil
+
+pub weighed-one : (z : Bytes) (k : ℕ) (r s : Record) → recordBytes k (weighed z r s) ≡ weighed z (node k (r ▸ nil)) (node k (s ▸ nil))
+unfolding weighed count
+weighed-one z k r s = sym (weighed-node z k (r ▸ nil) (s ▸ nil) ∙ ap (recordBytes k) (append-nil (weighed z r s)))
 
 pub one-ends : (k : ℕ) (r : Record) (from : ℕ) → from + length (encode (node k (r ▸ nil))) ≡ from + 6 + length (encode r)
 one-ends k r from =
@@ -83,15 +83,12 @@ module _ (d a n : Record) (c : Records) where
   unfolding first skip
   body-starts st = content-start (first-starts (skip-start 3 (d ▸ a ▸ n ▸ node 0x02 c ▸ nil) (content-start st)))
 
-node-whole : (k : ℕ) (x : Bytes) (r : Records) → encodeAll r ≡ x → recordBytes k x ≡ encode (node k r)
-unfolding encode
-node-whole k x r e = ap (recordBytes k) (sym e)
-
--- a Mod of what stands ahead, uses and declarations
-pub mod-whole : (d a n : Record) (b c : Records)
-    → recordBytes 0x60 (encodeAll (d ▸ a ▸ n ▸ nil) ++ recordBytes 0x02 (encodeAll b ++ encodeAll c)) ≡ encode (Mod d a n (b ▸▸ c))
-mod-whole d a n b c =
-    let ahead = encodeAll (d ▸ a ▸ n ▸ nil) in
-    let body = recordBytes 0x02 (encodeAll b ++ encodeAll c) in
-    let e : body ≡ encode (node 0x02 (b ▸▸ c)) = node-whole 0x02 (encodeAll b ++ encodeAll c) (b ▸▸ c) (encode-append b c) in
-    node-whole 0x60 (ahead ++ body) (d ▸ a ▸ n ▸ node 0x02 (b ▸▸ c) ▸ nil) (split d a n (b ▸▸ c) ∙ ap (λ (x : Bytes). ahead ++ x) (sym e))
+-- a Mod of what stands ahead, uses and declarations, beside the card's
+pub mod-whole : (z : Bytes) (d a n : Record) (b c e : Records) → count c ≡ count e
+    → recordBytes 0x60 (encodeAll (d ▸ a ▸ n ▸ nil) ++ recordBytes 0x02 (weighedAhead z b ++ weighedAll z c e)) ≡ weighed z (Mod d a n c) (Mod d a n (b ▸▸ e))
+unfolding encodeAll weighed count
+mod-whole z d a n b c e g =
+    let body = recordBytes 0x02 (weighedAhead z b ++ weighedAll z c e) in
+    let inside : weighedAll z (d ▸ a ▸ n ▸ node 0x02 c ▸ nil) (d ▸ a ▸ n ▸ node 0x02 (b ▸▸ e) ▸ nil) ≡ encodeAll (d ▸ a ▸ n ▸ nil) ++ body
+    = rw (weighed-self z d, weighed-self z a, weighed-self z n, weighed-node z 0x02 c (b ▸▸ e), weighed-ahead z b c e g) (simp (append-assoc, append-nil)) in
+    sym (weighed-node z 0x60 (d ▸ a ▸ n ▸ node 0x02 c ▸ nil) (d ▸ a ▸ n ▸ node 0x02 (b ▸▸ e) ▸ nil) ∙ ap (recordBytes 0x60) inside)

@@ -6,7 +6,7 @@ use Prim.Native.Nat.{ℕ, _+_, _<_, _≤_}
 use native.Mathlib.Omega.{arith}
 use lib.ListN.{length, length-append}
 use Rattle.wire.specs.Numbers.{Bytes}
-use Rattle.records.specs.Record.{Record, Records, nil, _▸_, encode, encodeAll, mapAll}
+use Rattle.records.specs.Record.{Record, Records, nil, _▸_, encode, encodeAll, mapAll, count}
 use Rattle.records.specs.Canonical.{Canonical, CanonicalAll}
 use Rattle.records.specs.Record.{deep, deepAll}
 use Rattle.records.specs.Kinds.{kinds, any}
@@ -16,8 +16,9 @@ use Rattle.rast.specs.Path.{Path}
 use Rattle.rast.proofs.Tests.{by-option}
 use Rattle.factor_paths.specs.Apply.{mappings}
 use Rattle.outcome.specs.FullTable.{firstIn}
+use Rattle.places.proofs.Weighed.{weighed, weighedAll, weighed-beside, mapped-count}
 use Rattle.operation.specs.declared.Shortening.{Shortening}
-use Rattle.operation.specs.Operations.{operationOf}
+use Rattle.operation.specs.Operations.{operationOf, weightBytes}
 use Rattle.adding.specs.Adds.{Table}
 use Rattle.gathering.specs.Gathers.{Span, span}
 use Rattle.gathering.proofs.Parts.{spansOf}
@@ -32,20 +33,22 @@ module _ (op : Shortening) (card root : Bytes) (most n : ℕ) (chain : List ℕ)
   one-more : (d : Record) (c : Records) (from : ℕ) (M D after : Made) → Declared op card root most n chain at m S wide d from D
       → Declares op card root most n chain at m S wide c (from + length (encode d)) (behind M D) after
       → Declares op card root most n chain at m S wide (d ▸ c) from M after
-  unfolding behind firstIn mapAll encodeAll
+  unfolding behind firstIn mapAll encodeAll count
   one-more d c from M D after e h =
       let o = inDecl op card root most n chain at m S d from in
       let next = from + length (encode d) in
       let p = firstIn (inDecl op card root most n chain at m S) c next in
       let w = walked op card root most n chain at m S in
+      let k = weightBytes op in
       record {
         full =
             h .full ∙ first-first (M .full) (D .full) (found p)
             ∙ ap (firstFull (M .full)) (ap (λ (x : ℕ). firstFull x (found p)) (e .full) ∙ first-found o p);
         bytes = λ z.
             by-option o
-            (λ t. h .bytes (rw t at z) ∙ append-assoc (M .bytes) (D .bytes) (encodeAll (mapAll w c))
-            ∙ ap (λ (x : Bytes). M .bytes ++ (x ++ encodeAll (mapAll w c))) (e .bytes t))
+            (λ t. h .bytes (rw t at z) ∙ append-assoc (M .bytes) (D .bytes) (weighedAll k c (mapAll w c))
+            ∙ ap (λ (x : Bytes). M .bytes ++ (x ++ weighedAll k c (mapAll w c))) (e .bytes t)
+            ∙ ap (λ (x : Bytes). M .bytes ++ x) (sym (weighed-beside k d c (w d) (mapAll w c) (mapped-count w c))))
             (λ x t. absurd (Option·none-ne-some x (sym (rw t at z))));
         words = h .words;
         holds = holds-on (from + length (encode d ++ encodeAll c)) (let l = length-append (encode d) (encodeAll c) in omega arith) (h .holds);
@@ -57,7 +60,7 @@ module _ (op : Shortening) (card root : Bytes) (most n : ℕ) (chain : List ℕ)
     pub all-declared : (c : Records) (from : ℕ) → FitsAll c (any (kinds 0x62 0x6A)) → CanonicalAll c → AllStart card from c → deepAll c ≤ depth → at < from
         → (M : Made) → length (M .held .words) ≡ wide → State from (M .owner) (M .held)
         → Declares op card root most n chain at m S wide c from M (eachMade f (spansOf from c) M)
-    unfolding eachMade spansOf firstIn mapAll encodeAll FitsAll Canonical deep behind
+    unfolding eachMade spansOf firstIn mapAll encodeAll weighed FitsAll Canonical deep behind
     all-declared nil from g h st l b M w s = record {
       full = first-none (M .full);
       bytes = λ z. sym (append-nil (M .bytes));

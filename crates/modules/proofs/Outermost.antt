@@ -22,8 +22,9 @@ use Rattle.outcome.specs.FullTable.{fullTable}
 use Rattle.outcome.specs.Outcome.{admitted}
 use Rattle.outcome.proofs.Accepted.{admitted-sound}
 use Rattle.operation.specs.declared.Shortening.{Shortening}
-use Rattle.operation.specs.declared.Shortening.the-variants.{Upstream}
-use Rattle.operation.specs.Operations.{operationOf}
+use Rattle.operation.specs.declared.Shortening.the-variants.{Upstream, Weighed}
+use Rattle.places.proofs.Weighed.{weighed}
+use Rattle.operation.specs.Operations.{operationOf, weightBytes}
 use Rattle.prefix.specs.Prefix.{Scope}
 use Rattle.prefix.proofs.Nested.{outermost-prefix}
 use Rattle.chains.specs.Chains.{room}
@@ -93,9 +94,9 @@ module _ (card root : Bytes) where
         (r .is-card .shallow) (le-refl (deep (tree card))) owner held t)
 
 -- what a card and a root that are admitted are
-pub admitted-reads : (op : Shortening) (card root : Bytes) (words : ℕ) → admitted (operationOf op) card root words ≡ Sound
-    → ((i : ℕ) → getD card i 0 < 256) → ((i : ℕ) → getD root i 0 < 256) → Reads card root (operationOf op .rootDepth)
-admitted-reads Upstream card root words e bc br =
+upstream-reads : (card root : Bytes) (words : ℕ) → admitted upstream card root words ≡ Sound
+    → ((i : ℕ) → getD card i 0 < 256) → ((i : ℕ) → getD root i 0 < 256) → Reads card root 8
+upstream-reads card root words e bc br =
     let a = admitted-sound upstream card root words e in
     record {
       small = (let l = a .card-length in omega arith);
@@ -104,11 +105,19 @@ admitted-reads Upstream card root words e bc br =
       is-root = sound-reads 8 path root (are-bytes root br) (a .root-sound);
     }
 
+pub admitted-reads : (op : Shortening) (card root : Bytes) (words : ℕ) → admitted (operationOf op) card root words ≡ Sound
+    → ((i : ℕ) → getD card i 0 < 256) → ((i : ℕ) → getD root i 0 < 256) → Reads card root (operationOf op .rootDepth)
+admitted-reads op card root words e bc br = go op e
+  where
+    go : (op : Shortening) → admitted (operationOf op) card root words ≡ Sound → Reads card root (operationOf op .rootDepth)
+    go Upstream e = upstream-reads card root words e bc br
+    go Weighed e = upstream-reads card root words e bc br
+
 -- what is made of the outermost module, where there may be so many pairs
 pub record Outermost (op : Shortening) (card root : Bytes) (most : ℕ) (held : Table) (M : Made) : Type 0 where
   pub full : M .full ≡ found (fullTable (operationOf op) most (deep (tree card)) (tree card) (Prefix card root) 0)
   pub bytes : fullTable (operationOf op) most (deep (tree card)) (tree card) (Prefix card root) 0 ≡ none
-      → M .bytes ≡ encode (apply (operationOf op) (tree root) (tree card))
+      → M .bytes ≡ weighed (weightBytes op) (tree card) (apply (operationOf op) (tree root) (tree card))
   pub long : length (M .held .words) ≡ length (held .words)
   pub own : M .owner ≡ 0 → Own card root op (M .held)
 

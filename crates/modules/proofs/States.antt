@@ -21,8 +21,9 @@ use Rattle.factor_paths.specs.Mapping.{Mapping, pairs}
 use Rattle.factor_paths.specs.Apply.{mappings, pathsToRemove, applyPrefix}
 use Rattle.factor_paths.specs.Walk.{walkDecl}
 use Rattle.outcome.specs.FullTable.{fieldAt, firstIn, fullTable}
+use Rattle.places.proofs.Weighed.{weighed, weighedAll}
 use Rattle.operation.specs.declared.Shortening.{Shortening}
-use Rattle.operation.specs.Operations.{operationOf}
+use Rattle.operation.specs.Operations.{operationOf, weightBytes}
 use Rattle.prefix.specs.Prefix.{Scope, scope, prefixIn}
 use Rattle.chains.specs.Chains.{room}
 use Rattle.pairs.proofs.Means.{means-count}
@@ -101,7 +102,7 @@ module _ (op : Shortening) (card root : Bytes) (most n : ℕ) (chain : List ℕ)
   -- what is made of a module, from the words that a module at a place, or another, owns
   pub record Applied (owner : ℕ) (held : Table) (M : Made) : Type 0 where
     pub full : M .full ≡ found (fullTable Op most n m S at)
-    pub bytes : fullTable Op most n m S at ≡ none → M .bytes ≡ encode (applyPrefix Op n m S)
+    pub bytes : fullTable Op most n m S at ≡ none → M .bytes ≡ weighed (weightBytes op) m (applyPrefix Op n m S)
     pub words : length (M .held .words) ≡ length (held .words)
     pub after : After (scopeAt op card root chain at) at (at + length (encode m)) (mappings Op m S) owner held M
 
@@ -114,13 +115,13 @@ module _ (op : Shortening) (card root : Bytes) (most n : ℕ) (chain : List ℕ)
 
   pub record Declared (wide : ℕ) (d : Record) (from : ℕ) (D : Made) : Type 0 where
     pub full : D .full ≡ found (inDecl d from)
-    pub bytes : inDecl d from ≡ none → D .bytes ≡ encode (walked d)
+    pub bytes : inDecl d from ≡ none → D .bytes ≡ weighed (weightBytes op) d (walked d)
     pub words : length (D .held .words) ≡ wide
     pub holds : Holds (scopeAt op card root chain at) at (from + length (encode d)) (mappings Op m S) (D .owner) (D .held)
 
   -- of several, behind what was made before
   pub record Declares (wide : ℕ) (c : Records) (from : ℕ) (before after : Made) : Type 0 where
     pub full : after .full ≡ firstFull (before .full) (found (firstIn inDecl c from))
-    pub bytes : firstIn inDecl c from ≡ none → after .bytes ≡ before .bytes ++ encodeAll (mapAll walked c)
+    pub bytes : firstIn inDecl c from ≡ none → after .bytes ≡ before .bytes ++ weighedAll (weightBytes op) c (mapAll walked c)
     pub words : length (after .held .words) ≡ wide
     pub holds : Holds (scopeAt op card root chain at) at (from + length (encodeAll c)) (mappings Op m S) (after .owner) (after .held)

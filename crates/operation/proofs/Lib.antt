@@ -1,1 +1,2 @@
 pub mod Lawful
+pub mod Weights

@@ -10,7 +10,8 @@ use lib.Dec.{leb, ltb}
 use borrow.Author.Tests.{ltb-false, leb-true}
 use Rattle.answers.specs.Answers.{number, value}
 use Rattle.answers.specs.declared.Answer.{Answer}
-use Rattle.answers.specs.declared.Answer.the-variants.{Shortened, ShortWork, LongCard, BadRoot, ShortRecord, WrongKind, TooDeep, LeftOver, FullTable, NoSpace}
+use Rattle.answers.specs.declared.Answer.the-variants.{Shortened, ShortWork, LongCard, BadRoot, ShortRecord, WrongKind}
+use Rattle.answers.specs.declared.Answer.the-variants.{TooDeep, LeftOver, FullTable, NoSpace, ShortList}
 use Rattle.answers.specs.declared.Verdict.{Verdict}
 use Rattle.answers.specs.declared.Verdict.the-variants.{Sound, Refused}
 use Rattle.wire.specs.Numbers.{Bytes}
@@ -57,6 +58,25 @@ faulty (TooDeep n) e z = omega arith
 faulty (LeftOver n) e z = omega arith
 faulty (FullTable n) e z = absurd (false≢true e)
 faulty NoSpace e z = absurd (false≢true e)
+faulty ShortList e z = absurd (false≢true e)
+
+-- nor is one by which a card is not admitted
+pub refused-number : (op : Operation) (card root : Bytes) (words : ℕ) (a : Answer) → admitted op card root words ≡ Refused a → number a ≡ 0 → ⊥
+unfolding admitted
+refused-number op card root words a h z =
+    by-test (ltb words (op .fewestWords)) (λ t. numbered (ap numberOf (rw t at h)) (omega arith))
+    (λ t. by-test (ltb (op .mostCardBytes) (length card)) (λ u. numbered (ap numberOf (rw (t, u) at h)) (omega arith))
+    (λ u. by-test (goodRoot op root)
+    (λ g. let e : reading (op .cardDepth) (op .outermost) card ≡ Refused a = rw (t, u, g) at h in
+    faulty a (sym (ap fair e) ∙ reading-fair (op .cardDepth) (op .outermost) card) z)
+    (λ g. numbered (ap numberOf (rw (t, u, g) at h)) (omega arith))))
+  where
+    numberOf : Verdict → ℕ
+    numberOf Sound = 1
+    numberOf (Refused a) = number a
+
+    numbered : {n : ℕ} → n ≡ number a → 1 ≤ n → ⊥
+    numbered e l = omega (arith, e, l, z)
 
 -- a card that is admitted
 pub record Admitted (op : Operation) (card root : Bytes) (words : ℕ) : Type 0 where

@@ -12,7 +12,7 @@ use Rattle.rast.proofs.Chosen.{Each, final-map}
 use Rattle.rast.proofs.Tests.{by-option}
 use Rattle.factor_paths.specs.Mapping.{equal}
 use Rattle.operation.specs.declared.Shortening.{Shortening}
-use Rattle.operation.specs.declared.Shortening.the-variants.{Upstream}
+use Rattle.operation.specs.declared.Shortening.the-variants.{Upstream, Weighed}
 use Rattle.operation.specs.Operations.{operationOf, samePaths}
 use Rattle.operation.proofs.Lawful.{chooses-of}
 use Rattle.paths.proofs.Bytes.{paths-same}
@@ -33,10 +33,12 @@ runtime-canonical = (refl, lit< tt, lit< tt, ((refl, lit< tt, lit< tt, tt), ((re
 
 pub bases-same : (op : Shortening) (p q : Path) → Canonical p → Canonical q → samePaths op (encode p) (encode q) ≡ equal (operationOf op) p q
 bases-same Upstream p q c d = paths-same p q c d
+bases-same Weighed p q c d = paths-same p q c d
 
 pub choice-none : (op : Shortening) (prefix : Bytes) → choice op prefix [] ≡ none
 unfolding choice finalPath isAmong
 choice-none Upstream prefix = refl
+choice-none Weighed prefix = refl
 
 module _ (op : Shortening) (S : Path) (canonical : Canonical S) (bs : List Path) (each : Each Canonical bs) where
   -- the path chosen among a name's paths, as bytes
@@ -47,6 +49,9 @@ module _ (op : Shortening) (S : Path) (canonical : Canonical S) (bs : List Path)
       go : (op : Shortening) → choice op (encode S) (map encode bs) ≡ bytesIf (operationOf op .chosenBase S bs)
       go Upstream =
           final-map (samePath sameBytes) sameBytes encode Canonical (λ a b c d. bases-same Upstream a b c d) «dafny_runtime» S bs runtime-canonical canonical
+          each
+      go Weighed =
+          final-map (samePath sameBytes) sameBytes encode Canonical (λ a b c d. bases-same Weighed a b c d) «dafny_runtime» S bs runtime-canonical canonical
           each
 
   pub choice-canonical : CanonicalIf (operationOf op .chosenBase S bs)

@@ -1,13 +1,13 @@
 -- THE TABLE'S ANSWERS: what a table of pairs says of a mapping that it means is the text's final replacement, and its uses. Assumes nothing.
 use mathlib.Core.Path.{_≡_, refl, ap, sym, subst, _∙_}
-use mathlib.Core.List.{List, [], _∷_, _++_, map, append-nil, append-assoc}
+use mathlib.Core.List.{List, [], _∷_, _++_, map, append-assoc}
 use mathlib.Core.Bool.{true, false, cond}
 use mathlib.Core.Option.{Option, none, some}
 use Prim.Native.Nat.{ℕ, suc}
 use native.Mathlib.Omega.{arith}
 use lib.ListN.{length, take, length-append, length-map}
 use Rattle.wire.specs.Numbers.{Bytes}
-use Rattle.records.specs.Record.{Records, nil, _▸_, encode, encodeAll}
+use Rattle.records.specs.Record.{Records, nil, _▸_, encode}
 use Rattle.records.specs.Canonical.{Canonical}
 use Rattle.rast.specs.Path.{Name, Path, MSel, whether}
 use Rattle.rast.specs.Operation.{Operation}
@@ -20,7 +20,7 @@ use Rattle.operation.specs.Operations.{operationOf, samePaths}
 use Rattle.operation.proofs.Lawful.{names-of}
 use Rattle.pairs.specs.Pairs.{Pair, pair, listed, basesOf, namesAfter}
 use Rattle.pairs.specs.Stored.{Stored, stored, bytesOf}
-use Rattle.pairs.specs.Choice.{basesNamed, choice, pairOf, named, useOf, usesFrom, uses, usesBytes}
+use Rattle.pairs.specs.Choice.{basesNamed, choice, pairOf, named, useOf, usesFrom, uses}
 use Rattle.pairs.specs.Means.{bytesOfAll, Bases, Means}
 use Rattle.pairs.proofs.Puts.{chosen-is}
 use Rattle.pairs.proofs.Bytes.{bytesIf, CanonicalIf, bases-same, choice-none, choice-bytes, choice-canonical}
@@ -36,15 +36,6 @@ pub record Declares (us : List Stored) (c : Records) : Type 0 where
   pub canonical : Bases pairs
   pub bytes : us ≡ bytesOfAll pairs
   pub decls : c ≡ useDecls pairs
-
--- as bytes
-pub declares-bytes : (us : List Stored) (c : Records) → Declares us c → encodeAll c ≡ usesBytes us
-unfolding encode useDecls usesBytes
-declares-bytes us c d = rw (d .decls, d .bytes) (bytes-all (d .pairs))
-  where
-    bytes-all : (ps : List Pair) → encodeAll (useDecls ps) ≡ usesBytes (bytesOfAll ps)
-    bytes-all [] = refl
-    bytes-all (p ∷ ps) = rw (bytes-all ps) (simp append-nil)
 
 pair-at : (ahead : List Pair) (p : Pair) (rest : List Pair) → pairOf (bytesOfAll (ahead ++ (p ∷ rest))) (length ahead) ≡ some (bytesOf p)
 unfolding pairOf
@@ -187,6 +178,3 @@ module _ (op : Shortening) where
     uses-says =
         let u = uses-from S canonical Final (means .pairs) says-pairs final-canonical [] (means .pairs) refl in
         rw (means .is .names, means .bytes, length-map (means .pairs) bytesOf) u
-
-    pub uses-bytes : encodeAll (ToUseStatements Op (m .keys) Final S) ≡ usesBytes (uses op (encode S) t)
-    uses-bytes = declares-bytes (uses op (encode S) t) (ToUseStatements Op (m .keys) Final S) uses-says

@@ -10,7 +10,7 @@ use Rattle.records.specs.Record.{recordBytes, encode}
 use Rattle.rast.specs.Path.{«dafny_runtime», whether}
 use Rattle.rast.specs.Final.{finalPath}
 use Rattle.operation.specs.declared.Shortening.{Shortening}
-use Rattle.operation.specs.declared.Shortening.the-variants.{Upstream}
+use Rattle.operation.specs.declared.Shortening.the-variants.{Upstream, Weighed}
 use Rattle.operation.specs.Operations.{operationOf, samePaths}
 use Rattle.prefix.specs.Prefix.{selection}
 use Rattle.pairs.specs.Stored.{Stored, stored}
@@ -18,6 +18,7 @@ use Rattle.pairs.specs.Stored.{Stored, stored}
 -- among a name's bases, given the prefix
 unfoldable pub choice : Shortening → Bytes → List Bytes → Option Bytes
 choice Upstream prefix bases = finalPath sameBytes (encode «dafny_runtime») prefix bases
+choice Weighed prefix bases = finalPath sameBytes (encode «dafny_runtime») prefix bases
 
 -- the pair that i pairs stand ahead of, and its base
 unfoldable pub pairOf : List Stored → ℕ → Option Stored
@@ -56,10 +57,6 @@ module _ (op : Shortening) where
     abbrev pub uses : List Stored
     uses = usesFrom 0 (length t)
 
--- the bytes of their declarations
+-- the bytes of a use's declaration
 abbrev pub useBytes : Stored → Bytes
 useBytes u = recordBytes 0x6A (recordBytes 0x80 (recordBytes 0x03 (1 ∷ []) ++ selection (u .base) (recordBytes 0x01 (u .name))))
-
-unfoldable pub usesBytes : List Stored → Bytes
-usesBytes [] = []
-usesBytes (u ∷ us) = useBytes u ++ usesBytes us

@@ -8,7 +8,8 @@ use lib.ListN.{length}
 use lib.Dec.{ltb}
 use Rattle.answers.specs.Answers.{value}
 use Rattle.answers.specs.declared.Answer.{Answer}
-use Rattle.answers.specs.declared.Answer.the-variants.{Shortened, ShortWork, LongCard, BadRoot, ShortRecord, WrongKind, TooDeep, LeftOver, FullTable, NoSpace}
+use Rattle.answers.specs.declared.Answer.the-variants.{Shortened, ShortWork, LongCard, BadRoot, ShortRecord, WrongKind}
+use Rattle.answers.specs.declared.Answer.the-variants.{TooDeep, LeftOver, FullTable, NoSpace, ShortList}
 use Rattle.answers.specs.declared.Verdict.{Verdict}
 use Rattle.answers.specs.declared.Verdict.the-variants.{Sound, Refused}
 use Rattle.wire.specs.Numbers.{Bytes}
@@ -29,6 +30,7 @@ fault (TooDeep n) = true
 fault (LeftOver n) = true
 fault (FullTable n) = false
 fault NoSpace = false
+fault ShortList = false
 
 abbrev pub fair : Verdict → Bool
 fair Sound = true

@@ -12,7 +12,8 @@ use Rattle.records.specs.Reading.{short}
 use Rattle.records.proofs.Tree.{long-enough, record-length, content-length, rest-length}
 use Rattle.rast.proofs.Tests.{by-test}
 use Rattle.factor_paths.specs.Walk.{Step, aType, anExpr, aFn, left, holds, stepOf, deeper}
-use Rattle.operation.specs.Operations.{operationOf}
+use Rattle.operation.specs.Operations.{operationOf, weightBytes}
+use Rattle.operation.proofs.Weights.{weight-length, weight-small}
 use Rattle.prefix.specs.Prefix.{Scope}
 use Rattle.rewriting.specs.Replaces.{nameIn, replacesType, replacesExpr}
 use Rattle.rewriting.specs.Shorts.{synonymBytes, identifierBytes, typeBytes, exprBytes}
@@ -54,20 +55,27 @@ held-bound k c x f g n h l p b =
     omega arith
 
 module _ (s : Scope) (words : List ℕ) where
-  type-bound : (w : ℕ) (r : Bytes) (n : ℕ) → 6 ≤ n → length r ≤ n → length (typeBytes s words w r) ≤ n * (1 + 3 * w)
+  weight-most : length (weightBytes (s .op)) ≤ 2 ^ 24
+  weight-most = let a = weight-length (s .op) in let b = weight-small (s .op) in omega arith
+
+  type-bound : (w : ℕ) (r : Bytes) (n : ℕ) → 6 ≤ n → length r ≤ n → length (typeBytes s words w r) ≤ n * (2 ^ 24 + 1 + 3 * w)
   unfolding typeBytes
   type-bound w r n h l =
       let a = name-within r in
       let b = synonyms-length (nameIn r) w r in
       let c : w * (18 + length (nameIn r)) ≤ w * (3 * n) = mul-le-mul-left w (omega arith) in
-      at-most (n * (1 + 3 * w)) (replacesType s words r) (synonymBytes (nameIn r) w r) r (omega arith) (omega arith)
+      let d = length-append (synonymBytes (nameIn r) w r) (weightBytes (s .op)) in
+      let e = weight-most in
+      at-most (n * (2 ^ 24 + 1 + 3 * w)) (replacesType s words r) (synonymBytes (nameIn r) w r ++ weightBytes (s .op)) r (omega arith) (omega arith)
 
-  expr-bound : (r : Bytes) (n : ℕ) → 6 ≤ n → length r ≤ n → length (exprBytes s words r) ≤ n * 2
+  expr-bound : (r : Bytes) (n : ℕ) → 6 ≤ n → length r ≤ n → length (exprBytes s words r) ≤ n * (2 ^ 24 + 1)
   unfolding exprBytes
   expr-bound r n h l =
       let a = name-within r in
       let b = identifier-length (nameIn r) in
-      at-most (n * 2) (replacesExpr s words r) (identifierBytes (nameIn r)) r (omega arith) (omega arith)
+      let d = length-append (identifierBytes (nameIn r)) (weightBytes (s .op)) in
+      let e = weight-most in
+      at-most (n * (2 ^ 24 + 1)) (replacesExpr s words r) (identifierBytes (nameIn r) ++ weightBytes (s .op)) r (omega arith) (omega arith)
 
   step-bound : (x : Step) (k w : ℕ) (this r q fn : Bytes) (m : ℕ) → length (typeBytes s words w this) ≤ m → length (exprBytes s words this) ≤ m
       → length this ≤ m → length r ≤ m → length q ≤ m → length fn ≤ m → length (stepped s words x k w this r q fn) ≤ m
@@ -82,14 +90,14 @@ module _ (s : Scope) (words : List ℕ) where
   deeper-most false w = omega arith
 
   abbrev Times : (depth w : ℕ) → ℕ
-  Times depth w = 1 + 3 * (w + depth)
+  Times depth w = 2 ^ 24 + 1 + 3 * (w + depth)
 
   abbrev Made : (depth : ℕ) → Bool → (w : ℕ) → Bytes → Bytes
   Made depth again w c = each (rewrite s words depth again w) (partsOf c)
 
   -- THE LAW: bytes that are at most n long, and n at least as long as a record, get at most so many times n long
   pub rewrite-bound : (depth : ℕ) (again : Bool) (w : ℕ) (r : Bytes) (n : ℕ) → 6 ≤ n → length r ≤ n
-      → length (rewrite s words depth again w r) ≤ n * (1 + 3 * (w + depth))
+      → length (rewrite s words depth again w r) ≤ n * (2 ^ 24 + 1 + 3 * (w + depth))
   unfolding rewrite
   rewrite-bound zero again w r n h l = omega arith
   rewrite-bound (suc depth) again w r n h l =
@@ -118,11 +126,11 @@ module _ (s : Scope) (words : List ℕ) where
       (held-bound k c (x ++ y) (Times depth 1) (Times (suc depth) w) n (omega arith) (omega arith) (omega arith) (omega arith))
 
   -- what is written of a content's parts
-  pub parts-most : (depth : ℕ) (again : Bool) (w : ℕ) (c : Bytes) → length (parts s words depth again w c) ≤ length c * (1 + 3 * (w + depth))
+  pub parts-most : (depth : ℕ) (again : Bool) (w : ℕ) (c : Bytes) → length (parts s words depth again w c) ≤ length c * (2 ^ 24 + 1 + 3 * (w + depth))
   unfolding parts
   parts-most depth again w c =
       parts-bound (rewrite s words depth again w) (Times depth w) (λ y g. rewrite-bound depth again w y (length y) g (omega arith)) c
 
   -- and of a declaration
-  pub declaration-small : (depth : ℕ) (r : Bytes) → length r ≤ 65536 → depth ≤ 48 → length (rewrite s words depth false 1 r) ≤ 2 ^ 40
+  pub declaration-small : (depth : ℕ) (r : Bytes) → length r ≤ 65536 → depth ≤ 48 → length (rewrite s words depth false 1 r) ≤ 2 ^ 41
   declaration-small depth r h d = let b = rewrite-bound depth false 1 r 65536 (omega arith) h in omega arith

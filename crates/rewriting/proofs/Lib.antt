@@ -1,4 +1,5 @@
-pub mod Parts
-pub mod Lengths
 pub mod Bound
+pub mod Lengths
+pub mod Parts
+pub mod Uses
 pub mod Walks

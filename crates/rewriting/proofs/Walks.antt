@@ -1,4 +1,5 @@
--- THE WALK: over the bytes of a record that fits, what is written is the one walk of factor_paths, by a table that means a module's mapping. Assumes nothing.
+-- THE WALK: over the bytes of a record that fits, what is written is the one walk of factor_paths, by a table that means a module's mapping, with the weights
+-- of its changed points. Assumes nothing.
 use mathlib.Core.Path.{_≡_, refl, ap, ap₂, sym, subst, _∙_}
 use mathlib.Core.Bool.{Bool, true, false, _&&_, _||_, cond}
 use mathlib.Core.List.{List, [], _++_, append-assoc, append-nil}
@@ -7,10 +8,10 @@ use native.Mathlib.Omega.{arith}
 use lib.ListN.{length, take, length-append}
 use lib.Seq.{take-at}
 use lib.Dec.{eqb}
-use borrow.Author.Tests.{ne-eqb, le-leb}
+use borrow.Author.Tests.{ne-eqb, eqb-true, le-leb}
 use Rattle.wire.specs.Numbers.{Bytes, num}
 use Rattle.records.specs.Record.{Record, Records, leaf, node, nil, _▸_, recordBytes, encode, encodeAll, kindOf, contentOf, restOf, firstRecord, kind, text}
-use Rattle.records.specs.Record.{isLeaf, nth, field, is, skip, first, deep, deepAll}
+use Rattle.records.specs.Record.{isLeaf, nth, field, is, count, skip, first, deep, deepAll}
 use Rattle.records.specs.Kinds.{Place}
 use Rattle.records.specs.Canonical.{Canonical, CanonicalAll}
 use Rattle.records.proofs.Fits.{Fits}
@@ -24,8 +25,9 @@ use Rattle.factor_paths.specs.Apply.{Identifier, replaces as replacesPath, Repl
 use Rattle.factor_paths.specs.Walk.{Step, aType, anExpr, aFn, left, holds, stepOf, deeper, synonyms, wrap, stepped as steppedRecord, walk, walkAll, walkFn}
 use Rattle.factor_paths.proofs.Mappings.{Good}
 use Rattle.factor_paths.proofs.Tidy.{by-either, at-literal, PathIn, Paths, PathsAll, fits-paths}
-use Rattle.factor_paths.proofs.Wraps.{or-left, or-right, paths-walked, wrap-other, expr-other}
-use Rattle.operation.specs.Operations.{operationOf, samePaths}
+use Rattle.factor_paths.proofs.Wraps.{deeper-suc, or-left, or-right, paths-walked, wrap-other, expr-other}
+use Rattle.operation.specs.Operations.{operationOf, samePaths, weightBytes}
+use Rattle.places.proofs.Weighed.{weighed, weighedAll, weighed-node, weighed-beside, weighed-self}
 use Rattle.prefix.specs.Prefix.{Scope, prefixIn}
 use Rattle.comparing.specs.Compares.{placeIn, baseAt}
 use Rattle.chains.specs.Chains.{room, wordAt}
@@ -86,13 +88,24 @@ identifier-bytes : (n : Name) → identifierBytes n ≡ encode (Identifier n)
 unfolding identifierBytes encode
 identifier-bytes n = rw append-nil
 
-encode-if : (b : Bool) (x y : Record) → cond b (encode x) (encode y) ≡ encode (cond b x y)
-encode-if true x y = refl
-encode-if false x y = refl
+-- a record that becomes another of a short name's kind, or is left
+module _ (z : Bytes) (this that : Record) (short : weighed z this that ≡ encode that ++ z) where
+  weigh-if : (b : Bool) → cond b (encode that ++ z) (encode this) ≡ weighed z this (cond b that this)
+  weigh-if true = sym short
+  weigh-if false = sym (weighed-self z this)
 
-encode-either : (a b : Bool) (x y : Record) → cond (a || b) (encode x) (encode y) ≡ encode (cond a x (cond b x y))
-encode-either true b x y = refl
-encode-either false b x y = encode-if b x y
+  weigh-either : (a b : Bool) → cond (a || b) (encode that ++ z) (encode this) ≡ weighed z this (cond a that (cond b that this))
+  weigh-either true b = sym short
+  weigh-either false b = weigh-if b
+
+short-type : (z : Bytes) (k w : ℕ) (c : Records) (n : Name) → eqb k 0x2D ≡ true
+    → weighed z (node k c) (synonyms n (suc w) (node k c)) ≡ encode (synonyms n (suc w) (node k c)) ++ z
+unfolding weighed synonyms
+short-type z k w c n e = rw e
+
+short-expr : (z : Bytes) (k : ℕ) (c : Records) (n : Name) → eqb k 0x5C ≡ true → weighed z (node k c) (Identifier n) ≡ encode (Identifier n) ++ z
+unfolding weighed
+short-expr z k c n e = rw (eqb-true k 0x5C e)
 
 -- a Text and a Kept are left
 leaf-step : (k : ℕ) → isLeaf k ≡ true → stepOf k ≡ left
@@ -130,6 +143,12 @@ unfolding walk
 counts op rep i l nil = refl
 counts op rep i l (r ▸ c) = rw (le-leb 2 i l, counts op rep (suc i) (omega arith) c)
 
+-- the walk keeps how many there are
+walked-count : (op : Operation) (rep : FinalReplacement) (again : Bool) (w : ℕ) (c : Records) → count c ≡ count (walkAll op rep again w c)
+unfolding walk count
+walked-count op rep again w nil = refl
+walked-count op rep again w (r ▸ c) = ap suc (walked-count op rep again w c)
+
 module _ (s : Scope) (t : Table) (m : Mapping) (tabled : Tabled s t m) (good : Good (operationOf (s .op)) m) (room-for : t .count ≤ room (t .words))
     (S : Path) (canonical : Canonical S) (prefix-is : prefixIn s ≡ encode S) where
   abbrev Op : Operation
@@ -140,6 +159,9 @@ module _ (s : Scope) (t : Table) (m : Mapping) (tabled : Tabled s t m) (good : G
 
   abbrev words : List ℕ
   words = t .words
+
+  abbrev Z : Bytes
+  Z = weightBytes (s .op)
 
   -- a name is replaced by the table's words where it is by the text
   pub replaces-is : (name : Name) (b : Path) → Canonical b → replaces s (t .words) name (encode b) ≡ replacesPath Op Final name b
@@ -160,25 +182,26 @@ module _ (s : Scope) (t : Table) (m : Mapping) (tabled : Tabled s t m) (good : G
 
   -- a path type and a path expression
   abbrev TypeWalked : (w k : ℕ) → Path → Type 0
-  TypeWalked w k p = typeBytes s words w (encode (node k (p ▸ nil))) ≡ encode (wrap Op Final w (node k (p ▸ nil)))
+  TypeWalked w k p = typeBytes s words (suc w) (encode (node k (p ▸ nil))) ≡ weighed Z (node k (p ▸ nil)) (wrap Op Final (suc w) (node k (p ▸ nil)))
 
   abbrev ExprWalked : (k : ℕ) → Path → Type 0
-  ExprWalked k p = exprBytes s words (encode (node k (p ▸ nil))) ≡ encode (ReplaceExprSingle Op Final (node k (p ▸ nil)))
+  ExprWalked k p = exprBytes s words (encode (node k (p ▸ nil))) ≡ weighed Z (node k (p ▸ nil)) (ReplaceExprSingle Op Final (node k (p ▸ nil)))
 
   -- whose path selects a name
   type-selected : (w k : ℕ) → eqb k 0x2D ≡ true → (b : Path) (n : Name) → Canonical (node k (MSel b n ▸ nil)) → TypeWalked w k (MSel b n)
   unfolding typeBytes replacesType wrap nth
   type-selected w k g b n h =
       let this = node k (MSel b n ▸ nil) in
-      rw (path-kind k (MSel b n) h, name-is k b n h, base-is k b n h, replaces-is n b (base-canonical k b n h), g, synonyms-bytes n w this)
-      (encode-if (replacesPath Op Final n b) (synonyms n w this) this)
+      rw (path-kind k (MSel b n) h, name-is k b n h, base-is k b n h, replaces-is n b (base-canonical k b n h), g, synonyms-bytes n (suc w) this)
+      (weigh-if Z this (synonyms n (suc w) this) (short-type Z k w (MSel b n ▸ nil) n g) (replacesPath Op Final n b))
 
   expr-selected : (k : ℕ) → eqb k 0x5C ≡ true → (b : Path) (n : Name) → Canonical (node k (MSel b n ▸ nil)) → ExprWalked k (MSel b n)
   unfolding exprBytes replacesExpr ReplaceExprSingle nth
   expr-selected k g b n h =
       let c = base-canonical k b n h in
       rw (path-kind k (MSel b n) h, name-is k b n h, base-is k b n h, replaces-is n b c, replaces-is (unmarked n) b c, g, identifier-bytes n)
-      (encode-either (replacesPath Op Final n b) (marked n && replacesPath Op Final (unmarked n) b) (Identifier n) (node k (MSel b n ▸ nil)))
+      (weigh-either Z (node k (MSel b n ▸ nil)) (Identifier n) (short-expr Z k (MSel b n ▸ nil) n g) (replacesPath Op Final n b)
+      (marked n && replacesPath Op Final (unmarked n) b))
 
   -- whose path is any
   module _ (k : ℕ) (c : Records) (o : PathIn c) (h : Canonical (node k c)) where
@@ -193,17 +216,21 @@ module _ (s : Scope) (t : Table) (m : Mapping) (tabled : Tabled s t m) (good : G
         by-test (is 0x13 p)
         (λ e. subst (λ (x : Path). Canonical (node k (x ▸ nil)) → P x) (sym (o .spelled e)) (f (field 0 p) (text (field 1 p))) held-canonical) g
 
-    type-walked : (w : ℕ) → eqb k 0x2D ≡ true → typeBytes s words w (encode (node k c)) ≡ encode (wrap Op Final w (node k c))
-    unfolding typeBytes replacesType wrap nth
-    type-walked w g = rw (o .only) (by-selected (TypeWalked w k) (type-selected w k g) (λ e. rw (path-kind k p held-canonical, e, g)))
+    left-self : encode (node k (p ▸ nil)) ≡ weighed Z (node k (p ▸ nil)) (node k (p ▸ nil))
+    left-self = sym (weighed-self Z (node k (p ▸ nil)))
 
-    expr-walked : eqb k 0x5C ≡ true → exprBytes s words (encode (node k c)) ≡ encode (ReplaceExprSingle Op Final (node k c))
+    type-walked : (w : ℕ) → eqb k 0x2D ≡ true → typeBytes s words (suc w) (encode (node k c)) ≡ weighed Z (node k c) (wrap Op Final (suc w) (node k c))
+    unfolding typeBytes replacesType wrap nth
+    type-walked w g = rw (o .only) (by-selected (TypeWalked w k) (type-selected w k g) (λ e. rw (path-kind k p held-canonical, e, g) left-self))
+
+    expr-walked : eqb k 0x5C ≡ true → exprBytes s words (encode (node k c)) ≡ weighed Z (node k c) (ReplaceExprSingle Op Final (node k c))
     unfolding exprBytes replacesExpr ReplaceExprSingle nth
-    expr-walked g = rw (o .only) (by-selected (ExprWalked k) (expr-selected k g) (λ e. rw (path-kind k p held-canonical, e, g)))
+    expr-walked g = rw (o .only) (by-selected (ExprWalked k) (expr-selected k g) (λ e. rw (path-kind k p held-canonical, e, g) left-self))
 
   abbrev Walked : (depth : ℕ) → Type 0
   Walked depth =
-      (again : Bool) (w : ℕ) (r : Record) → Paths r → Canonical r → deep r ≤ depth → rewrite s words depth again w (encode r) ≡ encode (walk Op Final again w r)
+      (again : Bool) (w : ℕ) (r : Record) → Paths r → Canonical r → deep r ≤ depth
+      → rewrite s words depth again (suc w) (encode r) ≡ weighed Z r (walk Op Final again (suc w) r)
 
   -- given the law of what goes less deep
   module _ (depth : ℕ) (below : Walked depth) where
@@ -211,59 +238,73 @@ module _ (s : Scope) (t : Table) (m : Mapping) (tabled : Tabled s t m) (good : G
     Made again w c = each (rewrite s words depth again w) (partsOf c)
 
     each-walked : (again : Bool) (w : ℕ) (c : Records) → PathsAll c → CanonicalAll c → deepAll c ≤ depth
-        → each (rewrite s words depth again w) (encodeEach c) ≡ encodeAll (walkAll Op Final again w c)
-    unfolding each encodeEach encodeAll walk Paths Canonical deep
+        → each (rewrite s words depth again (suc w)) (encodeEach c) ≡ weighedAll Z c (walkAll Op Final again (suc w) c)
+    unfolding each encodeEach weighed walk Paths Canonical deep
     each-walked again w nil p h l = refl
-    each-walked again w (r ▸ c) p h l = ap₂ _++_ (below again w r (p .0) (h .0) (omega arith)) (each-walked again w c (p .1) (h .1) (omega arith))
+    each-walked again w (r ▸ c) p h l =
+        ap₂ _++_ (below again w r (p .0) (h .0) (omega arith)) (each-walked again w c (p .1) (h .1) (omega arith))
+        ∙ sym (weighed-beside Z r c (walk Op Final again (suc w) r) (walkAll Op Final again (suc w) c) (walked-count Op Final again (suc w) c))
 
     parts-walked : (again : Bool) (w : ℕ) (c : Records) → PathsAll c → CanonicalAll c → deepAll c ≤ depth
-        → Made again w (encodeAll c) ≡ encodeAll (walkAll Op Final again w c)
+        → Made again (suc w) (encodeAll c) ≡ weighedAll Z c (walkAll Op Final again (suc w) c)
     parts-walked again w c p h l = rw (parts-all c h) (each-walked again w c p h l)
 
     fn-walked : (c : Records) → PathsAll c → CanonicalAll c → deepAll c ≤ depth
-        → Made false 1 (encodeAll (first 2 c)) ++ Made (Op .walksAgain) 1 (encodeAll (skip 2 c)) ≡ encodeAll (walkFn Op Final 0 c)
-    unfolding encodeAll walk first skip each Paths Canonical deep
+        → Made false 1 (encodeAll (first 2 c)) ++ Made (Op .walksAgain) 1 (encodeAll (skip 2 c)) ≡ weighedAll Z c (walkFn Op Final 0 c)
+    unfolding encodeAll weighed walk first skip each count Paths Canonical deep
     fn-walked nil p h l = rw parts-end
-    fn-walked (q ▸ nil) p h l = rw (parts-walked false 1 (q ▸ nil) p h l, parts-end) (append-nil _)
+    fn-walked (q ▸ nil) p h l = rw (parts-walked false 0 (q ▸ nil) p h l, parts-end) (append-nil _)
     fn-walked (q ▸ r ▸ c) p h l =
         rw (
-          parts-walked false 1 (q ▸ r ▸ nil) (p .0, (p .1 .0, tt)) (h .0, (h .1 .0, tt)) (omega arith),
-          parts-walked (Op .walksAgain) 1 c (p .1 .1) (h .1 .1) (omega arith),
+          parts-walked false 0 (q ▸ r ▸ nil) (p .0, (p .1 .0, tt)) (h .0, (h .1 .0, tt)) (omega arith),
+          parts-walked (Op .walksAgain) 0 c (p .1 .1) (h .1 .1) (omega arith),
           counts Op Final 2 (omega arith) c,
+          weighed-beside Z q (r ▸ c) (walk Op Final false 1 q) (walk Op Final false 1 r ▸ walkAll Op Final (Op .walksAgain) 1 c)
+              (ap suc (walked-count Op Final (Op .walksAgain) 1 c)),
+          weighed-beside Z r c (walk Op Final false 1 r) (walkAll Op Final (Op .walksAgain) 1 c) (walked-count Op Final (Op .walksAgain) 1 c),
         )
         (simp append-assoc)
 
+    kept-walked : (again : Bool) (w k : ℕ) (c : Records) → PathsAll c → CanonicalAll c → deepAll c ≤ depth
+        → recordBytes k (Made again (suc w) (encodeAll c)) ≡ weighed Z (node k c) (node k (walkAll Op Final again (suc w) c))
+    kept-walked again w k c p h l =
+        ap (recordBytes k) (parts-walked again w c p h l) ∙ sym (weighed-node Z k c (walkAll Op Final again (suc w) c))
+
     step-walked : (x : Step) (again : Bool) (w k : ℕ) (c : Records) → Paths (node k c) → Canonical (node k c) → deepAll c ≤ depth
-        → stepped s words x k w (encode (node k c)) (recordBytes k (Made again (deeper again w) (encodeAll c))) (recordBytes k (Made again w (encodeAll c)))
+        → stepped s words x k (suc w) (encode (node k c)) (recordBytes k (Made again (suc (deeper again w)) (encodeAll c)))
+        (recordBytes k (Made again (suc w) (encodeAll c)))
         (recordBytes k (Made false 1 (uncounted (encodeAll c)) ++ Made (Op .walksAgain) 1 (counted (encodeAll c))))
-        ≡ encode (steppedRecord Op Final x w (node k c) (node k (walkAll Op Final again (deeper again w) c)) (node k (walkAll Op Final again w c))
-        (node k (walkFn Op Final 0 c)))
-    unfolding encode Paths Canonical
+        ≡ weighed Z (node k c) (steppedRecord Op Final x (suc w) (node k c) (node k (walkAll Op Final again (suc (deeper again w)) c))
+        (node k (walkAll Op Final again (suc w) c)) (node k (walkFn Op Final 0 c)))
+    unfolding Paths Canonical
     step-walked aType again w k c p h l =
         by-test (eqb k 0x2D)
         (λ g. let o = p .0 (or-left (eqb k 0x2D) (eqb k 0x5C) g) in
-        rw (g, paths-walked Op Final again (deeper again w) c o) (type-walked k c o h w g))
-        (λ g. rw (g, wrap-other Op Final w k (walkAll Op Final again (deeper again w) c) g)
-        (ap (recordBytes k) (parts-walked again (deeper again w) c (p .1) (h .3) l)))
+        rw (g, paths-walked Op Final again (suc (deeper again w)) c o) (type-walked k c o h w g))
+        (λ g. rw (g, wrap-other Op Final (suc w) k (walkAll Op Final again (suc (deeper again w)) c) g)
+        (kept-walked again (deeper again w) k c (p .1) (h .3) l))
     step-walked anExpr again w k c p h l =
         by-test (eqb k 0x5C)
         (λ g. let o = p .0 (or-right (eqb k 0x2D) (eqb k 0x5C) g) in
-        rw (g, paths-walked Op Final again (deeper again w) c o) (expr-walked k c o h g))
-        (λ g. rw (g, expr-other Op Final k (walkAll Op Final again (deeper again w) c) g)
-        (ap (recordBytes k) (parts-walked again (deeper again w) c (p .1) (h .3) l)))
-    step-walked aFn again w k c p h l = rw (uncounted-is c (h .3), counted-is c (h .3)) (ap (recordBytes k) (fn-walked c (p .1) (h .3) l))
-    step-walked left again w k c p h l = refl
-    step-walked holds again w k c p h l = ap (recordBytes k) (parts-walked again w c (p .1) (h .3) l)
+        rw (g, paths-walked Op Final again (suc (deeper again w)) c o) (expr-walked k c o h g))
+        (λ g. rw (g, expr-other Op Final k (walkAll Op Final again (suc (deeper again w)) c) g)
+        (kept-walked again (deeper again w) k c (p .1) (h .3) l))
+    step-walked aFn again w k c p h l =
+        rw (uncounted-is c (h .3), counted-is c (h .3))
+        (ap (recordBytes k) (fn-walked c (p .1) (h .3) l) ∙ sym (weighed-node Z k c (walkFn Op Final 0 c)))
+    step-walked left again w k c p h l = sym (weighed-self Z (node k c))
+    step-walked holds again w k c p h l = kept-walked again w k c (p .1) (h .3) l
 
   rewrite-paths : (depth : ℕ) → Walked depth
-  unfolding rewrite walk Canonical deep
+  unfolding rewrite walk weighed Canonical deep
   rewrite-paths zero again w (leaf k b) p h l = absurd (omega arith)
   rewrite-paths zero again w (node k c) p h l = absurd (omega arith)
   rewrite-paths (suc depth) again w (leaf k b) p h l = rw (alone-kind (leaf k b) h, leaf-step k (h .0))
   rewrite-paths (suc depth) again w (node k c) p h l =
-      rw (alone-kind (node k c) h, alone-content (node k c) h) (step-walked depth (rewrite-paths depth) (stepOf k) again w k c p h (omega arith))
+      rw (alone-kind (node k c) h, alone-content (node k c) h)
+      (rw (← deeper-suc again w) (step-walked depth (rewrite-paths depth) (stepOf k) again w k c p h (omega arith)))
 
   -- THE LAW
   pub rewrite-walks : (depth : ℕ) (again : Bool) (w : ℕ) (r : Record) (p : Place) → Fits r p → Canonical r → deep r ≤ depth
-      → rewrite s (t .words) depth again w (encode r) ≡ encode (walk Op Final again w r)
+      → rewrite s (t .words) depth again (suc w) (encode r) ≡ weighed (weightBytes (s .op)) r (walk Op Final again (suc w) r)
   rewrite-walks depth again w r p f h l = rewrite-paths depth again w r (fits-paths r p f) h l

@@ -21,6 +21,10 @@ partsUpTo (suc n) c = cond (short c) [] (firstRecord c ∷ partsUpTo n (restOf c
 unfoldable pub partsOf : Bytes → List Bytes
 partsOf c = partsUpTo (length c) c
 
+-- the content of a Mod's body, its fourth field
+abbrev pub bodyOf : Bytes → Bytes
+bodyOf r = contentOf (restOf (restOf (restOf (contentOf r))))
+
 -- what f makes of each, one after the other
 unfoldable pub each : (Bytes → Bytes) → List Bytes → Bytes
 each f [] = []

@@ -7,6 +7,7 @@ use lib.ListN.{length}
 use lib.Dec.{ltb}
 use Rattle.wire.specs.Numbers.{Bytes}
 use Rattle.records.specs.Record.{recordBytes}
+use Rattle.operation.specs.Operations.{weightBytes}
 use Rattle.prefix.specs.Prefix.{Scope}
 use Rattle.rewriting.specs.Replaces.{nameIn, replacesType, replacesExpr}
 
@@ -23,12 +24,12 @@ abbrev pub unfit : (at w n : ℕ) → Bool
 unfit at w n = ltb (2 ^ 61) at || (ltb 65536 w || ltb 65536 n)
 
 module _ (s : Scope) (words : List ℕ) where
-  -- a TypeFromPath that is wrapped w times, and an ExprFromPath
+  -- a TypeFromPath that is wrapped w times, and an ExprFromPath; behind a short name its weight
   unfoldable pub typeBytes : ℕ → Bytes → Bytes
-  typeBytes w r = cond (replacesType s words r) (synonymBytes (nameIn r) w r) r
+  typeBytes w r = cond (replacesType s words r) (synonymBytes (nameIn r) w r ++ weightBytes (s .op)) r
 
   unfoldable pub exprBytes : Bytes → Bytes
-  exprBytes r = cond (replacesExpr s words r) (identifierBytes (nameIn r)) r
+  exprBytes r = cond (replacesExpr s words r) (identifierBytes (nameIn r) ++ weightBytes (s .op)) r
 
   -- as they are laid at a place: nothing where that is unfit
   unfoldable pub typeLaid : (at w : ℕ) → Bytes → Bytes

@@ -54,7 +54,7 @@ module _ (card root out : Bytes) (work : List ℕ) (bc : (i : ℕ) → getD card
 
   module _ (w : Written) (out′ : Bytes) (words′ : List ℕ) (o : output w out′ words′ ≡ wholeOutput Upstream card root words out) where
     result : Result Upstream card root (length work) is-sound bc br words out (output w out′ words′)
-    result = rw o (whole-sound Upstream card root (length work) is-sound bc br words out)
+    result = rw o (whole-sound Upstream card root (length work) is-sound bc br refl words out)
 
     answer-is : (x : Option ℕ) → Place ≡ x → w ≡ whether x (Length (length Whole)) Full
     answer-is x q = result .answer-is ∙ ap (λ (y : Option ℕ). whether y (Length (length Whole)) Full) (enough-words ∙ q)
@@ -96,7 +96,7 @@ module _ (card root out : Bytes) (work : List ℕ) (bc : (i : ℕ) → getD card
     module _ (w : Written) (out′ : Bytes) (words : List ℕ) (o : output w out′ words ≡ wholeOutput Upstream card root (take 2048 work) out) where
       words-all : length (words ++ drop 2048 work) ≡ length work
       words-all =
-          let r = rw (← o) at (whole-sound Upstream card root (length work) is-sound bc br (take 2048 work) out) in
+          let r = rw (← o) at (whole-sound Upstream card root (length work) is-sound bc br refl (take 2048 work) out) in
           let a : length words ≡ length (take 2048 work) = r .words-long in
           let b = length-append words (drop 2048 work) in
           let c = length-drop 2048 work in

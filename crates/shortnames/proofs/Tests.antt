@@ -4,17 +4,19 @@ use mathlib.Core.Bool.{Bool, true, false, _||_}
 use mathlib.Core.List.{List}
 use Prim.Native.Nat.{ℕ, _+_, _^_, _≤_}
 use native.Mathlib.Omega.{arith}
-use lib.ListN.{length}
+use lib.ListN.{length, replicate}
 use lib.Dec.{ltb}
 use borrow.Author.Tests.{ltb-false}
 use Rattle.wire.specs.Numbers.{Bytes}
 use Rattle.records.specs.Record.{recordBytes}
+use Rattle.operation.specs.Operations.{weightOf, weightBytes}
 use Rattle.prefix.specs.Prefix.{Scope}
 use Rattle.laying.specs.Lays.{lay, Laid}
-use Rattle.laying.proofs.Laws.{laid-none}
+use Rattle.laying.proofs.Laws.{laid-none, laid-zeros}
 use Rattle.rewriting.specs.Replaces.{nameIn, replacesType, replacesExpr}
 use Rattle.rewriting.specs.Shorts.{synonymBytes, identifierBytes, unfit, typeBytes, exprBytes, typeLaid, exprLaid}
 use Rattle.rewriting.proofs.Lengths.{identifier-length, name-inside}
+use Rattle.shortnames.proofs.Wraps.{small-synonyms}
 
 none : (a b c : Bool) → (a || (b || c)) ≡ false → (a ≡ false) × (b ≡ false) × (c ≡ false)
 none true b c h = (h, cc, cc)
@@ -29,6 +31,13 @@ fit at w r u f h =
 pub fit-name : (r name : Bytes) → name ≡ nameIn r → length r ≤ 65536 → length name ≤ 65536
 fit-name r name e h = let a = name-inside r in let b = ap length e in omega (arith, h, a, b)
 
+-- where its synonyms end
+pub fit-end : (at w : ℕ) (r : Bytes) (u : Bool) → u ≡ unfit at w (length r) → u ≡ false → (name : Bytes) → name ≡ nameIn r
+    → (out : Bytes) (e : ℕ) (o : Bytes) → Laid out at (synonymBytes name w r) e o → e ≤ 2 ^ 62
+fit-end at w r u f h name n out e o x =
+    let b = fit at w r u f h in
+    omega (arith, x .ends, small-synonyms name r w at (fit-name r name n (b .2)) (b .2) (b .1) (b .0))
+
 module _ (s : Scope) (words : List ℕ) (r out : Bytes) (at : ℕ) (u : Bool) where
   module _ (w : ℕ) (f : u ≡ unfit at w (length r)) where
     pub type-unfit : u ≡ true → Laid out at (typeLaid s words at w r) at out
@@ -36,10 +45,10 @@ module _ (s : Scope) (words : List ℕ) (r out : Bytes) (at : ℕ) (u : Bool) wh
     type-unfit h = rw (sym f ∙ h) (laid-none out at)
 
     module _ (h : u ≡ false) (y : Bool) (g : y ≡ replacesType s words r) where
-      pub type-short : y ≡ true → (name : Bytes) → name ≡ nameIn r → (e : ℕ) (after : Bytes)
-          → Laid out at (synonymBytes name w r) e after → Laid out at (typeLaid s words at w r) e after
-      unfolding typeLaid typeBytes
-      type-short k name n e after x = rw (sym f ∙ h, sym g ∙ k) (rw n at x)
+      pub type-short : y ≡ true → (name : Bytes) → name ≡ nameIn r → (e : ℕ) (o : Bytes) → Laid out at (synonymBytes name w r) e o
+          → (v : ℕ) → v ≡ weightOf (s .op) → (after : Bytes) → after ≡ lay o e (replicate v 0) → Laid out at (typeLaid s words at w r) (e + v) after
+      unfolding typeLaid typeBytes weightBytes
+      type-short k name n e o x v z after d = rw (sym f ∙ h, sym g ∙ k, ← z) (laid-zeros out at (synonymBytes (nameIn r) w r) e o v after (rw n at x) d)
 
       pub type-long : y ≡ false → (after : Bytes) → after ≡ lay out at r → Laid out at (typeLaid s words at w r) (at + length r) after
       unfolding typeLaid typeBytes
@@ -51,12 +60,14 @@ module _ (s : Scope) (words : List ℕ) (r out : Bytes) (at : ℕ) (u : Bool) wh
     expr-unfit h = rw (sym f ∙ h) (laid-none out at)
 
     module _ (h : u ≡ false) (y : Bool) (g : y ≡ replacesExpr s words r) where
-      pub expr-short : y ≡ true → (name : Bytes) → name ≡ nameIn r → (after : Bytes)
-          → after ≡ lay out at (recordBytes 0x42 (recordBytes 0x01 name)) → Laid out at (exprLaid s words at r) (at + 12 + length name) after
-      unfolding exprLaid exprBytes identifierBytes
-      expr-short k name n after x = rw (sym f ∙ h, sym g ∙ k) short
+      pub expr-short : y ≡ true → (name : Bytes) → name ≡ nameIn r → (o : Bytes) → o ≡ lay out at (recordBytes 0x42 (recordBytes 0x01 name))
+          → (v : ℕ) → v ≡ weightOf (s .op) → (after : Bytes) → after ≡ lay o (at + 12 + length name) (replicate v 0)
+          → Laid out at (exprLaid s words at r) (at + 12 + length name + v) after
+      unfolding exprLaid exprBytes identifierBytes weightBytes
+      expr-short k name n o x v z after d =
+          rw (sym f ∙ h, sym g ∙ k, ← z) (laid-zeros out at (identifierBytes (nameIn r)) (at + 12 + length name) o v after short d)
         where
-          short : Laid out at (identifierBytes (nameIn r)) (at + 12 + length name) after
+          short : Laid out at (identifierBytes (nameIn r)) (at + 12 + length name) o
           short = record { ends = (let l = identifier-length (nameIn r) in let m = ap length n in omega (arith, l, m)); bytes = rw n at x }
 
       pub expr-long : y ≡ false → (after : Bytes) → after ≡ lay out at r → Laid out at (exprLaid s words at r) (at + length r) after

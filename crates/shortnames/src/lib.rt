@@ -1,14 +1,12 @@
 // What is written where a path's type or expression stands: the short name, or the record as it is.
 use operation::Shortening;
 ghost use mathlib.Core.Path.{_≡_};
-ghost use mathlib.Core.Bool.{Bool};
-ghost use mathlib.Core.List.{_++_};
 ghost use Prim.Native.Nat.{_^_, _≤_};
 ghost use lib.ListN.{length};
 ghost use Rattle.records.specs.Record.{recordBytes};
 ghost use Rattle.prefix.specs.Prefix.{scope};
-ghost use Rattle.laying.specs.Lays.{Laid, lay, headBytes};
-ghost use Rattle.rewriting.specs.Shorts.{synonymBytes, identifierBytes, unfit as Shorts·unfit, typeLaid, exprLaid};
+ghost use Rattle.laying.specs.Lays.{Laid, lay};
+ghost use Rattle.rewriting.specs.Shorts.{synonymBytes, unfit as Shorts·unfit, typeLaid, exprLaid};
 
 // TIdentifier or Identifier of a name, by its kind.
 fn lay_named(name: &[u8], k: usize, out: &mut [u8], at: usize)
@@ -54,7 +52,7 @@ fn unfit(at: usize, w: usize, n: usize) -> bool
     65536 < n
 }
 
-// A TypeFromPath, wrapped w times where it is replaced.
+// A TypeFromPath, wrapped w times where it is replaced, with its weight behind it.
 pub fn write_type(
     op: Shortening,
     card: &[u8],
@@ -73,13 +71,16 @@ pub fn write_type(
         return at;
     }
     if replacement::replaces_type(op, card, root, chain, work, r) {
-        return lay_synonyms(replacement::name_in(r), r, w, out, at);
+        let end = lay_synonyms(replacement::name_in(r), r, w, out, at);
+        let weight = operation::weight(op);
+        laying::lay_zeros(weight, out, end);
+        return end + weight;
     }
     laying::lay(r, out, at);
     at + r.len()
 }
 
-// An ExprFromPath: Identifier of its whole name where it is replaced, so that a mark is kept.
+// An ExprFromPath: Identifier of its whole name where it is replaced, so that a mark is kept, with its weight behind it.
 pub fn write_expr(
     op: Shortening,
     card: &[u8],
@@ -98,8 +99,11 @@ pub fn write_expr(
     }
     if replacement::replaces_expr(op, card, root, chain, work, r) {
         let name = replacement::name_in(r);
+        let end = at + 12 + name.len();
+        let weight = operation::weight(op);
         lay_named(name, 0x42, out, at);
-        return at + 12 + name.len();
+        laying::lay_zeros(weight, out, end);
+        return end + weight;
     }
     laying::lay(r, out, at);
     at + r.len()

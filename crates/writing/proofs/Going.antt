@@ -50,7 +50,7 @@ module _ (card : Bytes) (f : Span → ℕ → Table → Made) (out₀ : Bytes) (
     pub wrote : Wrote out₀ out words p full owner pairs so-far
     pub rest : eachMade f (spansIn card i to) so-far ≡ eachMade f (spansIn card from to) m₀
     pub on : from ≤ i
-    pub bound : p ≤ (i - from) * 2 ^ 32
+    pub bound : p ≤ (i - from) * 2 ^ 40
     pub inside : i ≤ from + to
 
   pub going-none : (words : List ℕ) (owner pairs : ℕ) → m₀ ≡ made [] 0 owner (table pairs words) → Going out₀ words from 0 0 owner pairs
@@ -88,7 +88,7 @@ module _ (card : Bytes) (f : Span → ℕ → Table → Made) (out₀ : Bytes) (
 
       pub going-next : (q : ℕ) (part : Bytes) (words′ : List ℕ) (len full′ owner′ pairs′ : ℕ) → q ≡ min p (length out)
           → Wrote (lent out q) part words′ len full′ owner′ pairs′ (f (span i (i + 4 + n)) owner (table pairs words))
-          → ((o : ℕ) (h : Table) → length (f (span i (i + 4 + n)) o h .bytes) ≤ (i + 4 + n - i) * 2 ^ 32) → (full″ : ℕ) → full″ ≡ firstFull full full′
+          → ((o : ℕ) (h : Table) → length (f (span i (i + 4 + n)) o h .bytes) ≤ (i + 4 + n - i) * 2 ^ 40) → (full″ : ℕ) → full″ ≡ firstFull full full′
           → Going (back out q part) words′ (i + 4 + n) (p + len) full″ owner′ pairs′
       unfolding eachMade
       going-next q part words′ len full′ owner′ pairs′ y x b full″ z =

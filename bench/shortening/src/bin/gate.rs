@@ -8,8 +8,8 @@ use yardstick::text::{self, digits};
 use yardstick::{own, tree, walk, Answer, MOST_CARD, MOST_TIMES, WORDS};
 
 const USAGE: &str = "\
-gate batch VECTORS FOLDER    the vectors, cases that document 01 states, and the cards of own.rs
-gate apply FOLDER            the four cases of TestApply";
+gate batch VECTORS LISTS FOLDER    the vectors, cases that document 01 states, the cards of own.rs, and cases with lists
+gate apply FOLDER                  the four cases of TestApply";
 
 const CRATE: [u8; 6] = [2, 0, 0, 0, 0x11, 0];
 
@@ -31,6 +31,19 @@ const NO_CASES: [&str; 12] = [
     " 020000001100 09000000610003000000010061 100 2048",
     "020000001100 09000000610003000000010061 100 2048= 0",
 ];
+
+const NO_LIST: &str = "no case: write old ROOT CARD OUTLEN WORKLEN PLACES in less than 262144 characters, \
+PLACES a number of words or x for no list";
+
+/// Cases that should have a list and have none.
+const NO_LISTS: [&str; 2] = [
+    "old 020000001100 09000000610003000000010061 13 2048",
+    "old 020000001100 09000000610003000000010061 13 2048 y",
+];
+
+/// Module m with `use ::B` and `impl ::B {}`: the use put ahead has the bytes of the card's own.
+const OWN_USE: &str = "7200000060000200000001000200000003000300000001006d590000000200220000006a001c000000800003000000030001\
+0f0000001300020000001000030000000100422d0000006700270000007a00020000000200150000002d000f000000130002000000100003000000010042020000000200";
 
 /// A case and its answer, a line of each.
 #[derive(Default)]
@@ -71,7 +84,50 @@ impl Lines {
     }
 }
 
-fn batch(vectors: &str, folder: &str) -> Result<(), String> {
+/// The number of entries and the list, as batch writes them; no list is `x x`.
+fn shown_list(lent: Option<usize>, list: &[u32]) -> String {
+    let words: Vec<String> = list.iter().map(u32::to_string).collect();
+    match lent {
+        None => "x x".to_string(),
+        Some(_) if list.is_empty() => "0 -".to_string(),
+        Some(_) => format!("{} {}", list.len() / 2, words.join(",")),
+    }
+}
+
+/// The vectors with lists, a card whose own use is that of the pass, and lines that are no such cases.
+fn put_lists(lines: &mut Lines, lists: &str) -> Result<(), String> {
+    for v in text::places(lists)? {
+        let lent = v.lent.map_or("x".to_string(), |n| n.to_string());
+        let answer = match v.answer {
+            Ok(length) => format!("0 {length} {} {}", digits(&v.output), shown_list(v.lent, &v.list)),
+            Err((number, place)) => format!("{number} {place}"),
+        };
+        lines.put(
+            &format!("old {} {} {} {} {lent}", digits(&v.root), digits(&v.card), v.out, v.words),
+            &answer,
+        );
+    }
+    let card = text::bytes(OWN_USE).expect("hexadecimal digits");
+    let mut out = vec![0; MOST_CARD * MOST_TIMES];
+    let length = tree::shorten(&card, &CRATE, &mut out, WORDS).expect("a sound card");
+    let output = digits(&out[..length]);
+    for (lent, list) in
+        [(Some(4), &[31, 3, 125, 1][..]), (Some(3), &[]), (Some(5), &[31, 3, 125, 1]), (None, &[])]
+    {
+        let answer = match (lent, list) {
+            (Some(_), []) => "10 0".to_string(),
+            _ => format!("0 {length} {output} {}", shown_list(lent, list)),
+        };
+        let lent = lent.map_or("x".to_string(), |n: usize| n.to_string());
+        lines.put(&format!("old {} {OWN_USE} {length} {WORDS} {lent}", digits(&CRATE)), &answer);
+    }
+    for line in NO_LISTS {
+        lines.put(line, NO_LIST);
+    }
+    Ok(())
+}
+
+fn batch(vectors: &str, lists: &str, folder: &str) -> Result<(), String> {
     let mut lines = Lines::default();
     for v in text::vectors(vectors)? {
         lines.put_case(&v.root, &v.card, v.out, v.words, v.answer, &v.output);
@@ -106,6 +162,7 @@ fn batch(vectors: &str, folder: &str) -> Result<(), String> {
     // Longer than a line may be, and the longest that is one.
     lines.put(&"0".repeat(600_001), NO_CASE);
     lines.put(&format!("- {} 0 {WORDS}", "0".repeat(262_143 - 9)), "2 0");
+    put_lists(&mut lines, lists)?;
     lines.write(folder)
 }
 
@@ -148,7 +205,7 @@ fn main() -> ExitCode {
     let words: Vec<String> = env::args().skip(1).collect();
     let words: Vec<&str> = words.iter().map(String::as_str).collect();
     let done = match words[..] {
-        ["batch", vectors, folder] => batch(vectors, folder),
+        ["batch", vectors, lists, folder] => batch(vectors, lists, folder),
         ["apply", folder] => apply(folder),
         _ => Err(USAGE.to_string()),
     };

@@ -125,7 +125,7 @@ impl<'a> Mapping<'a> {
                 self.own(it.function.name);
                 self.function(&it.function);
             }
-            Declaration::Use(_) => {}
+            Declaration::Use(_) | Declaration::Put(_) => {}
         }
     }
 
@@ -191,6 +191,7 @@ impl<'a> Mapping<'a> {
             | Type::Dyn(inner)
             | Type::Array(inner, _)
             | Type::Synonym(inner, _)
+            | Type::Short(inner, _)
             | Type::MetaData(inner, _, _) => self.tpe(inner),
             Type::Tuple(arguments) => self.types(arguments),
             Type::Fn(arguments, result) => {
@@ -209,6 +210,7 @@ impl<'a> Mapping<'a> {
             Expr::FromPath(path) => self.path(path, true),
             Expr::Raw(_)
             | Expr::Identifier(_)
+            | Expr::Short(_)
             | Expr::LiteralInt(_)
             | Expr::LiteralBool(_)
             | Expr::LiteralString(..)

@@ -29,11 +29,12 @@ mod read;
 mod replace;
 mod write;
 
-use crate::{Refusal, MOST_CARD, MOST_PAIRS, MOST_ROOT, WORDS};
+use crate::{Answer, Listed, Mark, Refusal, MOST_CARD, MOST_PAIRS, MOST_ROOT, WORDS};
 use std::rc::Rc;
 
 pub use collect::{is_runtime, Mapping};
 pub use write::bytes;
+use write::{written, Places};
 
 /// A string's bytes, a part of the card.
 #[derive(Clone, Copy, Debug, PartialEq, Eq, Hash)]
@@ -68,6 +69,8 @@ pub enum Type<'a> {
     Array(Box<Type<'a>>, Option<Text<'a>>),
     /// Display and base.
     Synonym(Box<Type<'a>>, Box<Type<'a>>),
+    /// The outermost synonym put around a path type.
+    Short(Box<Type<'a>>, Box<Type<'a>>),
     MetaData(Box<Type<'a>>, Kept<'a>, Kept<'a>),
 }
 
@@ -76,6 +79,8 @@ pub enum Expr<'a> {
     Raw(Text<'a>),
     FromType(Type<'a>),
     Identifier(Text<'a>),
+    /// An identifier put for a path expression.
+    Short(Text<'a>),
     Match(Box<Expr<'a>>, Vec<MatchCase<'a>>),
     Stmt(Box<Expr<'a>>, Box<Expr<'a>>),
     Block(Box<Expr<'a>>),
@@ -253,6 +258,8 @@ pub enum Declaration<'a> {
     Trait(Trait<'a>),
     TopFn(TopFn<'a>),
     Use(Use<'a>),
+    /// A use put ahead of the body.
+    Put(Use<'a>),
 }
 
 #[derive(Debug)]
@@ -304,7 +311,7 @@ impl<'a> Module<'a> {
         }
         const PUB: Kept = Kept(&[1]);
         let uses = uses.map(|(name, base)| {
-            Declaration::Use(Use { visibility: PUB, path: Path::Member(base.clone(), name) })
+            Declaration::Put(Use { visibility: PUB, path: Path::Member(base.clone(), name) })
         });
         module.body.splice(..0, uses);
         Ok(())
@@ -346,12 +353,30 @@ pub fn outermost<'a>(card: &'a [u8], root: &'a [u8], words: usize) -> Result<Map
     }
 }
 
-/// The output's length, the output being at the front of `out`; or a refusal's number and place.
-pub fn shorten(card: &[u8], root: &[u8], out: &mut [u8], words: usize) -> Result<usize, Refusal> {
+/// The card's module with its names shortened, or the first of refusals 1 to 8.
+fn shortened<'a>(card: &'a [u8], root: &'a [u8], words: usize) -> Result<Module<'a>, Refusal> {
     let (mut module, root) = read(card, root, words)?;
     module.apply(root)?;
+    Ok(module)
+}
+
+/// The output's length, the output being at the front of `out`; or a refusal's number and place.
+pub fn shorten(card: &[u8], root: &[u8], out: &mut [u8], words: usize) -> Answer {
+    let module = shortened(card, root, words)?;
     let output = bytes(&module);
     let front = out.get_mut(..output.len()).ok_or((9, 0))?;
     front.copy_from_slice(&output);
     Ok(output.len())
+}
+
+/// The same with a list: the number of its entries too, each two words, at the front of `list`.
+pub fn shorten_places(card: &[u8], root: &[u8], out: &mut [u8], words: usize, list: &mut [u32]) -> Listed {
+    let module = shortened(card, root, words)?;
+    let mut places = Places::new();
+    let output = written(&module, Some(&mut places));
+    let front = out.get_mut(..output.len()).ok_or((9, 0))?;
+    let entries = list.get_mut(..2 * places.len()).ok_or((10, 0))?;
+    front.copy_from_slice(&output);
+    entries.copy_from_slice(places.as_flattened());
+    Ok((output.len(), places.len()))
 }

@@ -24,7 +24,7 @@ impl<'a> Type<'a> {
                 each(arguments);
                 result.replace(inside, types);
             }
-            Type::Intersection(first, second) | Type::Synonym(first, second) => {
+            Type::Intersection(first, second) | Type::Synonym(first, second) | Type::Short(first, second) => {
                 first.replace(inside, types);
                 second.replace(inside, types);
             }
@@ -41,6 +41,7 @@ impl<'a> Expr<'a> {
         match self {
             Expr::Raw(_)
             | Expr::Identifier(_)
+            | Expr::Short(_)
             | Expr::FromPath(_)
             | Expr::LiteralInt(_)
             | Expr::LiteralBool(_)
@@ -118,9 +119,10 @@ impl<'a> Replacement<'a> {
         if !self.has(name, base) {
             return;
         }
-        for _ in 0..times {
-            let old = std::mem::replace(tpe, Type::Identifier(name));
-            *tpe = Type::Synonym(Box::new(Type::Identifier(name)), Box::new(old));
+        for left in (0..times).rev() {
+            let old = Box::new(std::mem::replace(tpe, Type::Identifier(name)));
+            let display = Box::new(Type::Identifier(name));
+            *tpe = if left > 0 { Type::Synonym(display, old) } else { Type::Short(display, old) };
         }
     }
 
@@ -130,14 +132,14 @@ impl<'a> Replacement<'a> {
         let name = *name;
         let unmarked = || name.0.strip_suffix(b"!").is_some_and(|unmarked| self.has(Text(unmarked), base));
         if self.has(name, base) || unmarked() {
-            *expr = Expr::Identifier(name);
+            *expr = Expr::Short(name);
         }
     }
 
     /// A declaration that is no module. Uses aren't replaced.
     pub fn declaration(&self, declaration: &mut Declaration<'a>) {
         match declaration {
-            Declaration::Module(_) | Declaration::Use(_) => {}
+            Declaration::Module(_) | Declaration::Use(_) | Declaration::Put(_) => {}
             Declaration::Struct(it) => {
                 self.params(&mut it.params);
                 self.fields(&mut it.fields);

@@ -1,29 +1,52 @@
 //! Writing: each datatype as its record.
 use super::*;
 
+/// Offset and mark of each record that was put into the tree, in their order.
+pub type Places = Vec<[u32; 2]>;
+
+/// The bytes so far and, where they are wanted, the places.
+pub struct Output<'p> {
+    bytes: Vec<u8>,
+    places: Option<&'p mut Places>,
+}
+
+impl Output<'_> {
+    /// The record that comes next was put into the tree.
+    fn note(&mut self, mark: Mark) {
+        if let Some(places) = &mut self.places {
+            places.push([self.bytes.len() as u32, mark as u32]);
+        }
+    }
+}
+
 /// A record, or records one after the other.
 pub trait Write {
-    fn write(&self, out: &mut Vec<u8>);
+    fn write(&self, out: &mut Output);
 }
 
 /// The bytes of a record.
 pub fn bytes(it: &impl Write) -> Vec<u8> {
-    let mut out = Vec::new();
+    written(it, None)
+}
+
+/// The bytes of a record, and the places where they are wanted.
+pub fn written(it: &impl Write, places: Option<&mut Places>) -> Vec<u8> {
+    let mut out = Output { bytes: Vec::new(), places };
     it.write(&mut out);
-    out
+    out.bytes
 }
 
 /// A record of this kind whose content the function writes.
-fn content(out: &mut Vec<u8>, kind: u16, write: impl FnOnce(&mut Vec<u8>)) {
-    let start = out.len();
-    out.extend([0; 4]);
-    out.extend(kind.to_le_bytes());
+fn content(out: &mut Output, kind: u16, write: impl FnOnce(&mut Output)) {
+    let start = out.bytes.len();
+    out.bytes.extend([0; 4]);
+    out.bytes.extend(kind.to_le_bytes());
     write(out);
-    let length = (out.len() - start - 4) as u32;
-    out[start..start + 4].copy_from_slice(&length.to_le_bytes());
+    let length = (out.bytes.len() - start - 4) as u32;
+    out.bytes[start..start + 4].copy_from_slice(&length.to_le_bytes());
 }
 
-fn record(out: &mut Vec<u8>, kind: u16, fields: &[&dyn Write]) {
+fn record(out: &mut Output, kind: u16, fields: &[&dyn Write]) {
     content(out, kind, |out| {
         for field in fields {
             field.write(out);
@@ -32,43 +55,43 @@ fn record(out: &mut Vec<u8>, kind: u16, fields: &[&dyn Write]) {
 }
 
 impl Write for Text<'_> {
-    fn write(&self, out: &mut Vec<u8>) {
-        content(out, 0x01, |out| out.extend(self.0));
+    fn write(&self, out: &mut Output) {
+        content(out, 0x01, |out| out.bytes.extend(self.0));
     }
 }
 
 impl Write for Kept<'_> {
-    fn write(&self, out: &mut Vec<u8>) {
-        content(out, 0x03, |out| out.extend(self.0));
+    fn write(&self, out: &mut Output) {
+        content(out, 0x03, |out| out.bytes.extend(self.0));
     }
 }
 
 impl<T: Write> Write for Vec<T> {
-    fn write(&self, out: &mut Vec<u8>) {
+    fn write(&self, out: &mut Output) {
         content(out, 0x02, |out| self.iter().for_each(|item| item.write(out)));
     }
 }
 
 impl<T: Write> Write for Option<T> {
-    fn write(&self, out: &mut Vec<u8>) {
+    fn write(&self, out: &mut Output) {
         content(out, 0x02, |out| self.iter().for_each(|item| item.write(out)));
     }
 }
 
 impl<T: Write> Write for Box<T> {
-    fn write(&self, out: &mut Vec<u8>) {
+    fn write(&self, out: &mut Output) {
         T::write(self, out);
     }
 }
 
 impl<T: Write> Write for Rc<T> {
-    fn write(&self, out: &mut Vec<u8>) {
+    fn write(&self, out: &mut Output) {
         T::write(self, out);
     }
 }
 
 impl Write for Path<'_> {
-    fn write(&self, out: &mut Vec<u8>) {
+    fn write(&self, out: &mut Output) {
         match self {
             Path::Global => record(out, 0x10, &[]),
             Path::Crate => record(out, 0x11, &[]),
@@ -79,7 +102,7 @@ impl Write for Path<'_> {
 }
 
 impl Write for Type<'_> {
-    fn write(&self, out: &mut Vec<u8>) {
+    fn write(&self, out: &mut Output) {
         match self {
             Type::Plain(kind) => record(out, *kind, &[]),
             Type::Identifier(name) => record(out, 0x2C, &[name]),
@@ -94,17 +117,25 @@ impl Write for Type<'_> {
             Type::Intersection(left, right) => record(out, 0x35, &[left, right]),
             Type::Array(underlying, size) => record(out, 0x36, &[underlying, size]),
             Type::Synonym(display, base) => record(out, 0x37, &[display, base]),
+            Type::Short(display, base) => {
+                out.note(Mark::Type);
+                record(out, 0x37, &[display, base]);
+            }
             Type::MetaData(display, copies, overflow) => record(out, 0x38, &[display, copies, overflow]),
         }
     }
 }
 
 impl Write for Expr<'_> {
-    fn write(&self, out: &mut Vec<u8>) {
+    fn write(&self, out: &mut Output) {
         match self {
             Expr::Raw(content) => record(out, 0x40, &[content]),
             Expr::FromType(tpe) => record(out, 0x41, &[tpe]),
             Expr::Identifier(name) => record(out, 0x42, &[name]),
+            Expr::Short(name) => {
+                out.note(Mark::Expr);
+                record(out, 0x42, &[name]);
+            }
             Expr::Match(matchee, cases) => record(out, 0x43, &[matchee, cases]),
             Expr::Stmt(stmt, rhs) => record(out, 0x44, &[stmt, rhs]),
             Expr::Block(underlying) => record(out, 0x45, &[underlying]),
@@ -138,7 +169,7 @@ impl Write for Expr<'_> {
 }
 
 impl Write for Member<'_> {
-    fn write(&self, out: &mut Vec<u8>) {
+    fn write(&self, out: &mut Output) {
         match self {
             Member::Raw(content) => record(out, 0x83, &[content]),
             Member::Fn(doc, attributes, public, function) => {
@@ -151,7 +182,7 @@ impl Write for Member<'_> {
 }
 
 impl Write for Fields<'_> {
-    fn write(&self, out: &mut Vec<u8>) {
+    fn write(&self, out: &mut Output) {
         match self {
             Fields::Named(fields) => record(out, 0x75, &[fields]),
             Fields::Nameless(fields) => record(out, 0x76, &[fields]),
@@ -160,7 +191,7 @@ impl Write for Fields<'_> {
 }
 
 impl Write for Impl<'_> {
-    fn write(&self, out: &mut Vec<u8>) {
+    fn write(&self, out: &mut Output) {
         match &self.for_type {
             Some(for_type) => record(out, 0x79, &[&self.params, &self.tpe, for_type, &self.body]),
             None => record(out, 0x7A, &[&self.params, &self.tpe, &self.body]),
@@ -169,7 +200,7 @@ impl Write for Impl<'_> {
 }
 
 impl Write for Declaration<'_> {
-    fn write(&self, out: &mut Vec<u8>) {
+    fn write(&self, out: &mut Output) {
         match self {
             Declaration::Module(module) => record(out, 0x62, &[module]),
             Declaration::Struct(it) => record(out, 0x63, &[it]),
@@ -180,12 +211,16 @@ impl Write for Declaration<'_> {
             Declaration::Trait(it) => record(out, 0x68, &[it]),
             Declaration::TopFn(it) => record(out, 0x69, &[it]),
             Declaration::Use(it) => record(out, 0x6A, &[it]),
+            Declaration::Put(it) => {
+                out.note(Mark::Use);
+                record(out, 0x6A, &[it]);
+            }
         }
     }
 }
 
 impl Write for Module<'_> {
-    fn write(&self, out: &mut Vec<u8>) {
+    fn write(&self, out: &mut Output) {
         match self {
             Module::Mod(it) => record(out, 0x60, &[&it.about, &it.name, &it.body]),
             Module::Extern(name) => record(out, 0x61, &[name]),
@@ -194,7 +229,7 @@ impl Write for Module<'_> {
 }
 
 impl Write for Documented<'_> {
-    fn write(&self, out: &mut Vec<u8>) {
+    fn write(&self, out: &mut Output) {
         self.doc.write(out);
         self.attributes.write(out);
     }
@@ -203,7 +238,7 @@ impl Write for Documented<'_> {
 macro_rules! write_each {
     ($($name:ident $kind:literal { $($field:ident),* })*) => {$(
         impl Write for $name<'_> {
-            fn write(&self, out: &mut Vec<u8>) {
+            fn write(&self, out: &mut Output) {
                 record(out, $kind, &[$(&self.$field),*]);
             }
         }

@@ -6,7 +6,7 @@ mod names;
 mod write;
 
 use crate::rows::{Place, Shape, What, DECLARATIONS, KEPT, MODULE, PATH, ROWS, TEXT};
-use crate::{Answer, Refusal, MOST_CARD, MOST_PAIRS, MOST_ROOT, WORDS};
+use crate::{Answer, Listed, Refusal, MOST_CARD, MOST_PAIRS, MOST_ROOT, WORDS};
 use names::{Names, NONE};
 
 /// Something that may change.
@@ -275,10 +275,28 @@ impl<'a> Walk<'a> {
             }
         }
     }
+    /// How many entries of the list a point has that changes.
+    fn entries(&self, point: &Point) -> usize {
+        match point.sort {
+            Sort::Body => self.names.uses(point.module).count(),
+            Sort::Type(..) | Sort::Expr(_) => 1,
+        }
+    }
 }
 
 /// The output's length, the output being at the front of `out`; or a refusal's number and place.
 pub fn shorten(card: &[u8], root: &[u8], out: &mut [u8], words: usize) -> Answer {
+    let (length, _) = run(card, root, out, words, None)?;
+    Ok(length)
+}
+
+/// The same with a list: the number of its entries too, each two words, at the front of `list`.
+pub fn shorten_places(card: &[u8], root: &[u8], out: &mut [u8], words: usize, list: &mut [u32]) -> Listed {
+    run(card, root, out, words, Some(list))
+}
+
+#[inline(always)]
+fn run(card: &[u8], root: &[u8], out: &mut [u8], words: usize, list: Option<&mut [u32]>) -> Listed {
     if words < WORDS {
         return Err((1, 0));
     }
@@ -308,6 +326,13 @@ pub fn shorten(card: &[u8], root: &[u8], out: &mut [u8], words: usize) -> Answer
         None => false,
     });
     let out = out.get_mut(..length).ok_or((9, 0))?;
-    write::write(card, &walk.names, &points, out);
-    Ok(length)
+    let list = match list {
+        Some(list) => {
+            let entries: usize = points.iter().map(|point| walk.entries(point)).sum();
+            list.get_mut(..2 * entries).ok_or((10, 0))?
+        }
+        None => &mut [],
+    };
+    write::write(card, &walk.names, &points, out, list);
+    Ok((length, list.len() / 2))
 }

@@ -1,6 +1,8 @@
 //! The second pass: the card copied with its changes.
 use super::names::Names;
 use super::{end_of, path_at, Point, Sort};
+use crate::Mark;
+use std::slice::ChunksExactMut;
 
 /// A Text.
 fn text_length(name: &[u8]) -> usize {
@@ -29,15 +31,18 @@ struct Writer<'w> {
     points: &'w [Point],
     out: &'w mut [u8],
     at: usize,
+    /// The entries of the list that are yet to be written, none where there is no list.
+    entries: ChunksExactMut<'w, u32>,
 }
 
-/// The points, at least one if any, lie in the card; the output is as long as `out`.
-pub fn write(card: &[u8], names: &Names, points: &[Point], out: &mut [u8]) {
+/// The points, at least one if any, lie in the card; the output is as long as `out`, and `list` as long as
+/// its entries or empty.
+pub fn write(card: &[u8], names: &Names, points: &[Point], out: &mut [u8], list: &mut [u32]) {
     if points.is_empty() {
         out.copy_from_slice(card);
         return;
     }
-    Writer { card, names, points, out, at: 0 }.record(0);
+    Writer { card, names, points, out, at: 0, entries: list.chunks_exact_mut(2) }.record(0);
 }
 
 impl Writer<'_> {
@@ -62,6 +67,13 @@ impl Writer<'_> {
         self.text(name);
     }
 
+    /// What comes next is an entry of the list.
+    fn note(&mut self, mark: Mark) {
+        if let Some(entry) = self.entries.next() {
+            entry.copy_from_slice(&[self.at as u32, mark as u32]);
+        }
+    }
+
     /// The record at this place of the card, in which the first point lies.
     fn record(&mut self, at: usize) {
         let card = self.card;
@@ -73,13 +85,17 @@ impl Writer<'_> {
                 Sort::Body => uses = Some(point.module),
                 Sort::Type(_, wraps) => {
                     let name = path_at(card, at).1;
+                    self.note(Mark::Type);
                     for inside in (0..wraps as usize).rev() {
                         self.head(0x37, end - at + (inside + 1) * wrap_length(name));
                         self.identifier(0x2C, name);
                     }
                     return self.put(&card[at..end]);
                 }
-                Sort::Expr(_) => return self.identifier(0x42, path_at(card, at).1),
+                Sort::Expr(_) => {
+                    self.note(Mark::Expr);
+                    return self.identifier(0x42, path_at(card, at).1);
+                }
             }
         }
         let start = self.at;
@@ -105,6 +121,7 @@ impl Writer<'_> {
 
     fn put_use(&mut self, name: &[u8], base: &[u8]) {
         let bytes = use_length(name, base);
+        self.note(Mark::Use);
         self.head(0x6A, bytes);
         self.head(0x80, bytes - 6);
         self.head(0x03, 7);

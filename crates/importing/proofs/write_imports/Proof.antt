@@ -2,10 +2,12 @@
 use Prim.Native.Nat.{_-_, _≤_}
 use native.Mathlib.Omega.{arith}
 use borrow.Author.Needs.{needs}
+use Rattle.operation.specs.Operations.{weightBytes}
+use Rattle.operation.proofs.Weights.{weight-length, weight-small}
 use Rattle.prefix.specs.Prefix.{scope}
-use Rattle.pairs.specs.Choice.{usesBytes}
 use Rattle.choosing.specs.Picks.{usesOf}
 use Rattle.laying.specs.Lays.{Laid}
+use Rattle.rewriting.specs.Imports.{weighedUses}
 use Rattle.importing.proofs.Uses.{end-fits}
 use Rattle.importing.proofs.Tests.{laid-length, imports-long, imports-past, imports-all, loop-none, loop-more}
 use Rattle.importing.proofs.write_imports.Statement.{statement}
@@ -17,7 +19,7 @@ use Rattle.importing.proofs.write_use_of.Reads as write-use-of-reads
 
 abbrev Inv-loop : tie.InvT-loop
 Inv-loop op card root chain work n out₀ p₀ j₀ out p j =
-    (j ≤ n) × Laid out₀ 0 (usesBytes (usesOf (scope op card root chain) work 0 (n - j))) p out
+    (j ≤ n) × Laid out₀ 0 (weighedUses (weightBytes op) (usesOf (scope op card root chain) work 0 (n - j))) p out
 
 abbrev μ-loop : tie.MeasureT-loop
 μ-loop op card root chain work n out₀ p₀ j₀ out p j = j
@@ -43,7 +45,7 @@ returns-2 c =
 loop-holds : tie.Need-loop-holds Inv-loop μ-loop
 loop-holds c =
     let args = c .before .before .before .before .before .before .before .before .args in
-    (omega arith, loop-none (scope (args .op) (args .card .now) (args .root .now) (args .chain .now)) (args .work .now) (args .n) (args .out .now))
+    (omega arith, loop-none (scope (args .op) (args .card .now) (args .root .now) (args .chain .now)) (args .work .now) (args .n) _ (args .out .now))
 
 sub-i : tie.Need-sub-i Inv-loop μ-loop
 sub-i c =
@@ -60,7 +62,8 @@ write-use-of-requires c κs =
       if1 .left,
       omega (arith, if2 .left, room .ensures),
       end-fits (scope (args .op) (args .card .now) (args .root .now) (args .chain .now)) (args .work .now)
-          (if1 .left) _ _ _ _ (omega (arith, if2 .left, room .ensures)) (loop .inv .1),
+          (if1 .left) (weightBytes (args .op)) (omega (arith, weight-length (args .op), weight-small (args .op))) _ _ _ _
+          (omega (arith, if2 .left, room .ensures)) (loop .inv .1),
     )
 
 sub-j : tie.Need-sub-j Inv-loop μ-loop
@@ -77,7 +80,7 @@ loop-again c =
     let write-use-of = c .before .before .write-use-of in (
       omega (arith, loop .inv .0),
       loop-more (scope (args .op) (args .card .now) (args .root .now) (args .chain .now)) (args .work .now)
-          (args .n) _ _ _ _ _ _ (loop-test .taken) (loop .inv .0) (loop .inv .1)
+          (args .n) _ _ _ _ _ _ _ (loop-test .taken) (loop .inv .0) (loop .inv .1)
           (write-use-of .ensures),
     )
 

@@ -1,7 +1,8 @@
 -- `importing::write_use_of` meets its contract. A pair that brings a use, and the one that is chosen, are pairs that there is room for. Assumes nothing.
 use native.Mathlib.Omega.{arith}
+use Rattle.operation.proofs.Weights.{weight-small}
 use Rattle.prefix.specs.Prefix.{scope}
-use Rattle.importing.proofs.Uses.{one-none, one-room, one-fits, one-use}
+use Rattle.importing.proofs.Uses.{one-none, one-room, one-fits, one-end, one-use}
 use borrow.Author.Needs.{needs}
 use Rattle.importing.proofs.write_use_of.Statement.{statement}
 use Rattle.importing.proofs.write_use_of.Tie as tie
@@ -9,6 +10,8 @@ use Rattle.importing.proofs.write_use_of.Reads as reads
 use Rattle.importing.proofs.write_use_of.Lts as lts
 use Rattle.choosing.proofs.use_of.Reads as use-of-reads
 use Rattle.importing.proofs.write_use.Reads as write-use-reads
+use Rattle.laying.proofs.lay_zeros.Reads as lay-zeros-reads
+use Rattle.operation.proofs.weight.Reads as weight-reads
 use Rattle.reader.proofs.record_at.Reads as record-at-reads
 use Rattle.wire.proofs.part.Reads as part-reads
 use Rattle.wire.proofs.word.Reads as word-reads
@@ -25,7 +28,7 @@ returns c =
     let use-of = c .before .use-of in
     let if1 = c .if1 in
     one-none (scope (args .op) (args .card .now) (args .root .now) (args .chain .now)) (args .work .now)
-    (args .i) _ (use-of .ensures) (args .out .now) (args .at) (if1 .taken)
+    (args .i) _ (use-of .ensures) _ (args .out .now) (args .at) (if1 .taken)
 
 mul-k : tie.Need-mul-k
 mul-k c = search needs
@@ -121,23 +124,56 @@ write-use-requires c κs =
     (word .ensures .0) (word2 .ensures .0) (part .ensures) (word3 .ensures .0) (record-at .ensures) (pre .0) in
     (fits .0, fits .1, pre .2)
 
+weight-requires : tie.Need-weight-requires
+weight-requires c κs = search needs
+
+lay-zeros-requires : tie.Need-lay-zeros-requires
+lay-zeros-requires c κs = search needs
+
+add-result : tie.Need-add-result
+add-result c =
+    let args = c .before .before .before .before .before .before .before .before .before .before .before .before .before .before .before .before
+    .before .before .before .before .before .before .before .before .args in
+    let pre = c .before .before .before .before .before .before .before .before .before .before .before .before .before .before .before .before
+    .before .before .before .before .before .before .before .before .pre in
+    let use-of = c .before .before .before .before .before .before .before .before .before .before .before .before .before .before .before .before
+    .before .before .use-of in
+    let if1 = c .before .before .before .before .before .before .before .before .before .before .before .before .before .before .before .before
+    .before .if1 in
+    let word = c .before .before .before .before .before .before .before .before .before .before .before .before .before .before .before .word in
+    let word2 = c .before .before .before .before .before .before .before .before .before .before .before .before .before .word2 in
+    let part = c .before .before .before .before .before .before .before .before .before .before .before .before .part in
+    let word3 = c .before .before .before .before .before .before .before .before .before .before .word3 in
+    let record-at = c .before .before .before .before .before .before .before .before .before .record-at in
+    let write-use = c .before .before .before .before .before .before .before .write-use in
+    let weight = c .before .before .before .before .weight in
+    let end = one-end (scope (args .op) (args .card .now) (args .root .now) (args .chain .now)) (args .work .now)
+    (args .i) _ (use-of .ensures) (if1 .left) _ _ _ _ _
+    (word .ensures .0) (word2 .ensures .0) (part .ensures) (word3 .ensures .0) (record-at .ensures) _ _ _ _ (write-use .ensures) (pre .0) (pre .2) in
+    omega (arith, end, weight .ensures, weight-small (args .op))
+
 same-length : tie.Need-same-length
 same-length c = search needs
 
 returns-2 : tie.Need-returns-2
 returns-2 c =
     let args = c .before .before .before .before .before .before .before .before .before .before .before .before .before .before .before .before
-    .before .before .before .args in
-    let use-of = c .before .before .before .before .before .before .before .before .before .before .before .before .before .use-of in
-    let if1 = c .before .before .before .before .before .before .before .before .before .before .before .before .if1 in
-    let word = c .before .before .before .before .before .before .before .before .before .before .word in
-    let word2 = c .before .before .before .before .before .before .before .before .word2 in
-    let part = c .before .before .before .before .before .before .before .part in
-    let word3 = c .before .before .before .before .before .word3 in
-    let record-at = c .before .before .before .before .record-at in
-    let write-use = c .before .before .write-use in
+    .before .before .before .before .before .before .before .before .args in
+    let use-of = c .before .before .before .before .before .before .before .before .before .before .before .before .before .before .before .before
+    .before .before .use-of in
+    let if1 = c .before .before .before .before .before .before .before .before .before .before .before .before .before .before .before .before
+    .before .if1 in
+    let word = c .before .before .before .before .before .before .before .before .before .before .before .before .before .before .before .word in
+    let word2 = c .before .before .before .before .before .before .before .before .before .before .before .before .before .word2 in
+    let part = c .before .before .before .before .before .before .before .before .before .before .before .before .part in
+    let word3 = c .before .before .before .before .before .before .before .before .before .before .word3 in
+    let record-at = c .before .before .before .before .before .before .before .before .before .record-at in
+    let write-use = c .before .before .before .before .before .before .before .write-use in
+    let weight = c .before .before .before .before .weight in
+    let lay-zeros = c .before .before .lay-zeros in
     one-use (scope (args .op) (args .card .now) (args .root .now) (args .chain .now)) (args .work .now) (args .i) _ (use-of .ensures) (if1 .left) _ _ _ _ _
-    (word .ensures .0) (word2 .ensures .0) (part .ensures) (word3 .ensures .0) (record-at .ensures) _ _ _ _ (write-use .ensures)
+    (word .ensures .0) (word2 .ensures .0) (part .ensures) (word3 .ensures .0) (record-at .ensures) _ _ _ _ (write-use .ensures) _ (weight .ensures) _
+    (lay-zeros .ensures)
 
 pub write-use-of-spec : {M : Type 1} → statement M
 write-use-of-spec =
@@ -163,5 +199,8 @@ write-use-of-spec =
     word-requires-3
     record-at-requires
     write-use-requires
+    weight-requires
+    lay-zeros-requires
+    add-result
     same-length
     returns-2)

@@ -6,10 +6,10 @@ use Rattle.batch.proofs.memory.words_are_left.Statement.{statement}
 use Rattle.batch.proofs.memory.words_are_left.Tie as tie
 
 abbrev Inv-loop : tie.InvT-loop
-Inv-loop work i₀ i = Unit {0}
+Inv-loop work from i₀ i = Unit {0}
 
 abbrev μ-loop : tie.MeasureT-loop
-μ-loop work i₀ i = length work - i
+μ-loop work from i₀ i = length work - i
 
 loop-holds : tie.Need-loop-holds Inv-loop μ-loop
 loop-holds c = search needs

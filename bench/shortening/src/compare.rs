@@ -1,0 +1,445 @@
+//! Every answer of every way, held against one another and against what is due.
+use std::borrow::Borrow;
+use std::collections::BTreeMap;
+use yardstick::random::Draws;
+use yardstick::text::{digits, Vector};
+use yardstick::{tree, walk, Answer, Listed, MOST_CARD, MOST_ENTRIES, MOST_TIMES, WORDS};
+
+/// Words of a list that is long enough for every output.
+pub const LONG: usize = 2 * MOST_ENTRIES;
+
+/// Card, root, out buffer, and how many work words.
+type Call = fn(&[u8], &[u8], &mut [u8], usize) -> Answer;
+
+/// The same with a list, and where the number of its entries goes.
+type ListCall = fn(&[u8], &[u8], &mut [u8], usize, &mut [u32], &mut u32) -> Answer;
+
+pub struct Way {
+    pub what: &'static str,
+    call: Call,
+    list_call: ListCall,
+    /// Whether it brings its own work words, and so can't be given fewer.
+    own_words: bool,
+}
+
+pub const WAYS: &[Way] = &[
+    #[cfg(feature = "console")]
+    Way {
+        what: "console",
+        call: |card, root, out, _| yardstick::console::shorten(card, root, out),
+        list_call: |card, root, out, _, list, entries| {
+            yardstick::console::shorten_places(card, root, out, list, entries)
+        },
+        own_words: true,
+    },
+    Way {
+        what: "tree",
+        call: tree::shorten,
+        list_call: |card, root, out, words, list, entries| {
+            counted(tree::shorten_places(card, root, out, words, list), entries)
+        },
+        own_words: false,
+    },
+    Way {
+        what: "walk",
+        call: walk::shorten,
+        list_call: |card, root, out, words, list, entries| {
+            counted(walk::shorten_places(card, root, out, words, list), entries)
+        },
+        own_words: false,
+    },
+];
+
+fn counted(listed: Listed, entries: &mut u32) -> Answer {
+    let (length, count) = listed?;
+    *entries = count as u32;
+    Ok(length)
+}
+
+/// What a call gives: its answer, the output and the words of the list's entries.
+#[derive(Clone)]
+struct Given {
+    answer: Answer,
+    output: Vec<u8>,
+    list: Vec<u32>,
+}
+
+impl Given {
+    /// What a list of so many words changes.
+    fn with_list(&self, lent: usize) -> Given {
+        match self.answer.is_ok() && lent < self.list.len() {
+            true => Given { answer: Err((10, 0)), output: Vec::new(), list: Vec::new() },
+            false => self.clone(),
+        }
+    }
+}
+
+pub struct Case {
+    pub root: Vec<u8>,
+    pub card: Vec<u8>,
+    /// How many bytes of the out buffer are lent, and how many words.
+    pub out: usize,
+    pub words: usize,
+    /// Where it is known beforehand what is due, and with how many words of a list, if one is lent.
+    due: Option<(Option<usize>, Given)>,
+}
+
+impl Case {
+    pub fn new(root: Vec<u8>, card: Vec<u8>, out: usize, words: usize) -> Case {
+        Case { root, card, out, words, due: None }
+    }
+
+    pub fn of_vector(v: Vector) -> Case {
+        let given = Given { answer: v.answer, output: v.output, list: v.list };
+        Case { root: v.root, card: v.card, out: v.out, words: v.words, due: Some((v.lent, given)) }
+    }
+
+    pub fn call(&self, way: &Way, out: &mut [u8]) -> Answer {
+        (way.call)(&self.card, &self.root, &mut out[..self.out], self.words)
+    }
+
+    pub fn list_call(&self, way: &Way, out: &mut [u8], list: &mut [u32], entries: &mut u32) -> Answer {
+        (way.list_call)(&self.card, &self.root, &mut out[..self.out], self.words, list, entries)
+    }
+
+    /// How many words of a list are lent beforehand.
+    fn lent(&self) -> Option<usize> {
+        self.due.as_ref().and_then(|(lent, _)| *lent)
+    }
+
+    /// What is due with so many words of a list, where it is known beforehand.
+    fn due(&self, lent: Option<usize>) -> Option<Given> {
+        self.due.as_ref().filter(|(known, _)| *known == lent).map(|(_, given)| given.clone())
+    }
+
+    /// As a line of the vectors, without its answer.
+    fn line(&self, lent: Option<usize>) -> String {
+        let plain = format!("{} {} {} {}", digits(&self.root), digits(&self.card), self.out, self.words);
+        match lent {
+            Some(lent) => format!("old {plain} {lent}"),
+            None => plain,
+        }
+    }
+}
+
+/// The number of entries before a call, far more than any output has.
+const NO_ENTRIES: u32 = 0xA5A5_A5A5;
+
+/// What out buffer and list hold before a call, and the two.
+pub struct Buffers {
+    before: Vec<u8>,
+    pub out: Vec<u8>,
+    list_before: Vec<u32>,
+    pub list: Vec<u32>,
+    /// For the lengths of lists.
+    draws: Draws,
+}
+
+/// The output and the list's entries, or what is wrong with the rest of what was lent.
+type Seen<'b> = Result<(&'b [u8], &'b [u32]), &'static str>;
+
+/// The first so many, none where the rest is not as it was.
+fn front<'b, T: PartialEq>(now: &'b [T], before: &[T], count: usize) -> Option<&'b [T]> {
+    let (front, rest) = now.split_at_checked(count)?;
+    (rest == &before[count..]).then_some(front)
+}
+
+impl Buffers {
+    /// Room for the longest output and list, and for what the cases lend of which it is known beforehand.
+    pub fn new<'c>(cases: impl IntoIterator<Item = &'c Case>) -> Self {
+        let (mut bytes, mut words) = (MOST_CARD * MOST_TIMES + 100, LONG + 100);
+        for case in cases {
+            bytes = bytes.max(case.out);
+            words = words.max(case.lent().unwrap_or(0));
+        }
+        let before: Vec<u8> = (0..bytes).map(|i| (i * 31 + i / 256 + 7) as u8).collect();
+        let list_before: Vec<u32> = (0..words as u32).map(|i| i.wrapping_mul(0x9E37_79B1) ^ 0xA5).collect();
+        Buffers { out: before.clone(), before, list: list_before.clone(), list_before, draws: Draws(1) }
+    }
+
+    fn call(&mut self, case: &Case, way: &Way, lent: Option<usize>) -> (Answer, Seen<'_>) {
+        let (before, out) = (&self.before[..case.out], &mut self.out[..case.out]);
+        let words = lent.unwrap_or(0);
+        let (list_before, list) = (&self.list_before[..words], &mut self.list[..words]);
+        out.copy_from_slice(before);
+        list.copy_from_slice(list_before);
+        let mut entries = NO_ENTRIES;
+        let answer = match lent {
+            None => case.call(way, out),
+            Some(_) => case.list_call(way, out, list, &mut entries),
+        };
+        let entries = match (answer, lent) {
+            (Ok(_), Some(_)) => entries as usize,
+            _ if entries == NO_ENTRIES => 0,
+            _ => return (answer, Err(" and a number of entries")),
+        };
+        let output = front(out, before, answer.unwrap_or(0)).ok_or(" and other bytes behind");
+        let list = front(list, list_before, entries * 2).ok_or(" and other words behind");
+        (answer, output.and_then(|output| Ok((output, list?))))
+    }
+
+    /// What is given to a case by these ways, or what is wrong with it.
+    fn compare<'w>(
+        &mut self,
+        ways: impl IntoIterator<Item = &'w Way>,
+        case: &Case,
+        lent: Option<usize>,
+        mut due: Option<Given>,
+    ) -> Result<Given, String> {
+        let mut faults = Vec::new();
+        for way in ways {
+            let (answer, seen) = self.call(case, way, lent);
+            let due = due.get_or_insert_with(|| {
+                let (output, list) = seen.unwrap_or_default();
+                Given { answer, output: output.to_vec(), list: list.to_vec() }
+            });
+            let fault = match seen {
+                Err(fault) => fault,
+                Ok(_) if answer != due.answer => "",
+                Ok((output, _)) if output != due.output => " with another output",
+                Ok((_, list)) if list != due.list => " with another list",
+                Ok(_) => continue,
+            };
+            faults.push(format!("{} answers {answer:?}{fault}, not {:?}", way.what, due.answer));
+        }
+        match (due, &faults[..]) {
+            (Some(given), []) => Ok(given),
+            _ => Err(format!("{}\n    {}", faults.join("; "), case.line(lent))),
+        }
+    }
+
+    /// A length for a list of so many words: none, too short by one or two, just enough, or more.
+    fn length(&mut self, words: usize) -> usize {
+        match self.draws.below(8) {
+            0 => 0,
+            1 | 2 => words.saturating_sub(1),
+            3 | 4 => words.saturating_sub(2),
+            5 | 6 => words,
+            _ => words + 1 + self.draws.below(20),
+        }
+    }
+
+    /// The answers to a case without a list and with one of the length known beforehand, else of a drawn one; or
+    /// what is wrong with them or with those with a long list.
+    fn answers(&mut self, ways: &[Way], case: &Case) -> Result<(Answer, Answer), String> {
+        // The console's call last, so that the others say what is due.
+        let ways = || ways.iter().rev().filter(|way| case.words >= WORDS || !way.own_words);
+        let without = self.compare(ways(), case, None, case.due(None))?;
+        let long = self.compare(ways(), case, Some(LONG), None)?;
+        if (long.answer, &long.output) != (without.answer, &without.output) {
+            let (with, without) = (long.answer, without.answer);
+            let line = case.line(Some(LONG));
+            return Err(format!("{with:?} with a list that suffices, {without:?} without one\n    {line}"));
+        }
+        let lent = case.lent().unwrap_or_else(|| self.length(long.list.len()));
+        let due = case.due(Some(lent)).unwrap_or_else(|| long.with_list(lent));
+        let with = self.compare(ways(), case, Some(lent), Some(due))?;
+        Ok((without.answer, with.answer))
+    }
+}
+
+/// How many there are of each number, 0 for acceptance.
+#[derive(Default)]
+struct Numbers(BTreeMap<u32, usize>);
+
+impl Numbers {
+    fn count(&mut self, answer: Answer) {
+        *self.0.entry(answer.map_or_else(|(number, _)| number, |_| 0)).or_default() += 1;
+    }
+
+    fn shown(&self) -> String {
+        let each: Vec<String> = self.0.iter().map(|(number, count)| format!("{number}: {count}")).collect();
+        each.join(", ")
+    }
+}
+
+/// Compares all answers to these cases, and says how many there are of each number: whether none differs.
+pub fn agree<C: Borrow<Case>>(what: &str, cases: impl IntoIterator<Item = C>, buffers: &mut Buffers) -> bool {
+    const SHOWN: usize = 5;
+    let (mut count, mut differ) = (0, 0);
+    let (mut without, mut with) = (Numbers::default(), Numbers::default());
+    for case in cases {
+        count += 1;
+        match buffers.answers(WAYS, case.borrow()) {
+            Ok(answers) => {
+                without.count(answers.0);
+                with.count(answers.1);
+            }
+            Err(how) => {
+                differ += 1;
+                if differ <= SHOWN {
+                    println!("{what} {count}: {how}");
+                }
+            }
+        }
+    }
+    let ways: Vec<&str> = WAYS.iter().map(|way| way.what).collect();
+    println!(
+        "{what}: {differ} of {count} differ ({}); answers {}; with a list {}",
+        ways.join(", "),
+        without.shown(),
+        with.shown()
+    );
+    differ == 0
+}
+
+#[cfg(test)]
+mod tests {
+    use super::*;
+    use yardstick::cards::{constant, module, path, raw, ty};
+    use yardstick::own;
+
+    fn case() -> Case {
+        let types = ["::a::X", "::b::Y", "crate::m::Z"];
+        let body: Vec<_> = types.iter().map(|of| constant("k", ty(of), raw())).collect();
+        Case::new(path("crate"), module("m", &body), 1000, WORDS)
+    }
+
+    /// What is said of tree beside one that does otherwise with a list; nothing, if nothing is.
+    fn beside(list_call: ListCall, case: &Case) -> String {
+        let other = Way { what: "other", call: tree::shorten, list_call, own_words: false };
+        let tree = WAYS.iter().find(|way| way.what == "tree").unwrap();
+        let tree = Way { what: "tree", ..*tree };
+        let mut buffers = Buffers::new([]);
+        // Often enough that each length is drawn.
+        let ways = [other, tree];
+        (0..100).find_map(|_| buffers.answers(&ways, case).err()).unwrap_or_default()
+    }
+
+    fn tree_list(
+        card: &[u8],
+        root: &[u8],
+        out: &mut [u8],
+        words: usize,
+        list: &mut [u32],
+        entries: &mut u32,
+    ) -> Answer {
+        counted(tree::shorten_places(card, root, out, words, list), entries)
+    }
+
+    #[test]
+    fn own_cards() {
+        let mut buffers = Buffers::new([]);
+        for c in own::cases() {
+            let out = c.card.len() * MOST_TIMES;
+            let answers = buffers.answers(WAYS, &Case::new(c.root, c.card, out, c.words));
+            assert!(answers.is_ok(), "{}: {answers:?}", c.sort);
+        }
+    }
+
+    #[test]
+    fn the_same_way_twice() {
+        assert_eq!(beside(tree_list, &case()), "");
+    }
+
+    #[test]
+    fn faults_are_found() {
+        let said = |list_call| beside(list_call, &case());
+        // Another word or byte behind what is due, another number of entries.
+        let word = said(|card, root, out, words, list, entries| {
+            let answer = tree_list(card, root, out, words, list, entries);
+            if let Some(word) = list.get_mut(2 * *entries as usize) {
+                *word ^= 1;
+            }
+            answer
+        });
+        assert!(word.contains(" and other words behind, not Ok("), "{word}");
+        let more = said(|card, root, out, words, list, entries| {
+            let answer = tree_list(card, root, out, words, list, entries);
+            *entries = entries.wrapping_add(1);
+            answer
+        });
+        assert!(more.contains(" with another list, not Ok("), "{more}");
+        let fewer = said(|card, root, out, words, list, entries| {
+            let answer = tree_list(card, root, out, words, list, entries)?;
+            *entries -= 1;
+            list[2 * *entries as usize..].iter_mut().for_each(|word| *word = 0);
+            Ok(answer)
+        });
+        assert!(fewer.contains(" and other words behind, not Ok("), "{fewer}");
+        let byte = said(|card, root, out, words, list, entries| {
+            let answer = tree_list(card, root, out, words, list, entries);
+            out[answer.unwrap_or(0)] ^= 1;
+            answer
+        });
+        assert!(byte.contains(" and other bytes behind, not Ok("), "{byte}");
+        // Another list, another output.
+        let list = said(|card, root, out, words, list, entries| {
+            let answer = tree_list(card, root, out, words, list, entries)?;
+            list[1] ^= 1;
+            Ok(answer)
+        });
+        assert!(list.contains(" with another list, not Ok("), "{list}");
+        let output = said(|card, root, out, words, list, entries| {
+            let answer = tree_list(card, root, out, words, list, entries)?;
+            out[6] ^= 1;
+            Ok(answer)
+        });
+        assert!(output.contains(" with another output, not Ok("), "{output}");
+        // A list that is too short by one word, or by one entry, is taken.
+        let odd = said(|card, root, out, words, list, entries| {
+            let mut longer = [&*list, &[0]].concat();
+            let answer = tree_list(card, root, out, words, &mut longer, entries)?;
+            list.copy_from_slice(&longer[..list.len()]);
+            Ok(answer)
+        });
+        assert!(odd.contains("not Err((10, 0))"), "{odd}");
+        // A refusal leaves a number of entries, or words of the list.
+        let number = said(|card, root, out, words, list, entries| {
+            *entries = 0;
+            tree_list(card, root, out, words, list, entries)
+        });
+        assert!(number.contains(" and a number of entries, not Err((10, 0))"), "{number}");
+        let words = said(|card, root, out, words, list, entries| {
+            let answer = tree_list(card, root, out, words, list, entries);
+            if let (Err(_), Some(word)) = (answer, list.first_mut()) {
+                *word ^= 1;
+            }
+            answer
+        });
+        assert!(words.contains(" and other words behind, not Err((10, 0))"), "{words}");
+    }
+
+    /// 10 ahead of 9.
+    #[test]
+    fn order_is_seen() {
+        let mut case = case();
+        case.out = 20;
+        let said = beside(
+            |card, root, out, words, list, entries| {
+                tree_list(card, root, &mut [0; 1000], words, &mut list.to_vec(), &mut 0)?;
+                tree_list(card, root, out, words, list, entries)
+            },
+            &case,
+        );
+        assert!(said.contains("other answers Err((10, 0))"), "{said}");
+        assert!(said.contains("not Err((9, 0))"), "{said}");
+    }
+
+    /// What is stated counts, and the length that is stated is lent.
+    #[test]
+    fn stated_lists() {
+        let mut buffers = Buffers::new([]);
+        let given = |case: &Case| {
+            let (mut out, mut list) = (vec![0; case.out], vec![0; LONG]);
+            let (length, entries) =
+                tree::shorten_places(&case.card, &case.root, &mut out, WORDS, &mut list).unwrap();
+            let (output, list) = (out[..length].to_vec(), list[..2 * entries].to_vec());
+            Given { answer: Ok(length), output, list }
+        };
+        let mut case = case();
+        let due = given(&case);
+        let words = due.list.len();
+        case.due = Some((Some(words), due.clone()));
+        assert_eq!(buffers.answers(WAYS, &case), Ok((due.answer, due.answer)));
+        case.due = Some((Some(words - 1), due.with_list(words - 1)));
+        assert_eq!(buffers.answers(WAYS, &case), Ok((due.answer, Err((10, 0)))));
+        case.due = Some((Some(words - 1), due.clone()));
+        assert!(buffers.answers(WAYS, &case).is_err());
+        let mut other = due.clone();
+        other.list[3] += 1;
+        case.due = Some((Some(words), other));
+        let said = buffers.answers(WAYS, &case).unwrap_err();
+        assert!(said.contains("with another list") && said.contains(&format!("old {}", case.line(None))));
+    }
+}

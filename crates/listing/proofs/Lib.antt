@@ -1,0 +1,5 @@
+pub mod Passed
+pub mod Uses
+pub mod Beside
+pub mod Ring
+pub mod Sound

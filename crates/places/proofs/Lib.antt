@@ -1,0 +1,6 @@
+pub mod Exact
+pub mod Listings
+pub mod Meets
+pub mod Rises
+pub mod Weighed
+pub mod Words

@@ -1,0 +1,228 @@
+-- THE RESULT over a sound card, whatever is lent: 8, 9 or 10 with nothing written, or the text's output and the list of its changed points. Assumes nothing.
+use mathlib.Core.Path.{_≡_, refl, ap, sym, _∙_}
+use mathlib.Core.Bool.{false, cond}
+use mathlib.Core.List.{List, [], _++_}
+use mathlib.Core.Option.{Option, none, some}
+use Prim.Native.Nat.{ℕ, suc, _+_, _-_, _*_, _/_, _%_, _^_, _<_, _≤_, min}
+use native.Mathlib.Omega.{arith}
+use lib.ListN.{length, take, drop, getD, length-append, length-drop}
+use lib.Seq.{take-append-seam}
+use lib.Dec.{leb, ltb}
+use borrow.Author.Tests.{lt-ltb, le-ltb, ltb-true, ltb-false, leb-true}
+use Rattle.answers.specs.declared.Verdict.the-variants.{Sound}
+use Rattle.wire.specs.Numbers.{Bytes}
+use Rattle.wire.proofs.Numbers.{are-bytes}
+use Rattle.records.specs.Record.{Record, encode, tree, deep}
+use Rattle.records.specs.Kinds.{path}
+use Rattle.records.proofs.Shape.{fits-shaped}
+use Rattle.rast.specs.Path.{MSel, whether}
+use Rattle.rast.specs.Operation.{upstream}
+use Rattle.rast.specs.Mod.{nameOf}
+use Rattle.rast.proofs.Names.{upstream-names}
+use Rattle.rast.proofs.Chosen.{upstream-chooses}
+use Rattle.rast.proofs.Tests.{by-test}
+use Rattle.factor_paths.specs.Apply.{apply}
+use Rattle.factor_paths.proofs.Uses.{upstream-marks}
+use Rattle.factor_paths.proofs.Shapes.{apply-canonical}
+use Rattle.size.proofs.Bound.{card-bound}
+use Rattle.outcome.specs.FullTable.{fullTable}
+use Rattle.outcome.specs.Outcome.{admitted}
+use Rattle.outcome.proofs.Accepted.{admitted-sound}
+use Rattle.points.proofs.Demand.{apply-point}
+use Rattle.places.specs.Places.{Entry, entryWords, placesOf}
+use Rattle.places.proofs.Weighed.{weightless, weighed-length}
+use Rattle.places.proofs.Rises.{places-few}
+use Rattle.places.proofs.Words.{words-length}
+use Rattle.operation.specs.declared.Shortening.{Shortening}
+use Rattle.operation.specs.declared.Shortening.the-variants.{Upstream, Weighed}
+use Rattle.operation.specs.Operations.{weightBytes}
+use Rattle.operation.proofs.Weights.{weight-length, weight-none}
+use Rattle.chains.specs.Chains.{room}
+use Rattle.adding.specs.Adds.{Table, table}
+use Rattle.gathering.specs.Gathers.{span}
+use Rattle.laying.specs.Lays.{lay}
+use Rattle.laying.proofs.Laws.{lay-whole}
+use Rattle.listing.specs.Lists.{cardPlaces}
+use Rattle.listing.proofs.Sound.{listing-card}
+use Rattle.measuring.specs.Measured.{wholeOutput}
+use Rattle.measuring.proofs.Sound.{Result as Unweighed, whole-sound}
+use Rattle.modules.specs.Modules.{moduleMade, cardMade}
+use Rattle.modules.proofs.Outermost.{Outermost, Reads, admitted-reads, outermost-is}
+use Rattle.placing.specs.declared.Placed.the-variants.{Full, NoRoom, FewWords, Done}
+use Rattle.placing.specs.Placing.{Placing, weighedMade, plainMade, countedFirst, writtenFirst, placed}
+
+-- a weighed length taken apart
+apart-length : (l e : ℕ) → l < 2 ^ 24 → (l + 2 ^ 24 * e) % 2 ^ 24 ≡ l
+apart-length l e h = omega (arith, h)
+
+apart-entries : (l e : ℕ) → l < 2 ^ 24 → (l + 2 ^ 24 * e) / 2 ^ 24 ≡ e
+apart-entries l e h = omega (arith, h)
+
+-- two words for each entry
+two-each : (n e : ℕ) → ltb (n / 2) e ≡ ltb n (2 * e)
+two-each n e =
+    by-test (ltb n (2 * e)) (λ t. lt-ltb (n / 2) e (let l = ltb-true n (2 * e) t in omega (arith, l)) ∙ sym t)
+    (λ t. le-ltb (n / 2) e (let l = ltb-false n (2 * e) t in omega (arith, l)) ∙ sym t)
+
+module _ (card root : Bytes) (n : ℕ) (sound : admitted upstream card root n ≡ Sound)
+    (bc : (i : ℕ) → getD card i 0 < 256) (br : (i : ℕ) → getD root i 0 < 256) where
+  abbrev Output : Record
+  Output = apply upstream (tree root) (tree card)
+
+  abbrev pub Whole : Bytes
+  Whole = encode Output
+
+  abbrev pub Places : List Entry
+  Places = placesOf 0 (tree card) Output
+
+  -- the first table with more than so many pairs
+  abbrev pub FullAt : ℕ → Option ℕ
+  FullAt most = fullTable upstream most (deep (tree card)) (tree card) (MSel (tree root) (nameOf (tree card))) 0
+
+  reads : Reads card root 8
+  reads = admitted-reads Upstream card root n sound bc br
+
+  whole-small : length Whole < 2 ^ 24
+  whole-small =
+      let a = admitted-sound upstream card root n sound in
+      let b = card-bound (tree root) card (are-bytes card bc) (a .card-sound) in
+      let l = a .card-length in
+      omega (arith, b, l)
+
+  is-module : (op : Shortening) (held : Table) → cardMade op card root 65537 held ≡ moduleMade op card root 48 [] (span 0 (length card)) 65537 held
+  unfolding cardMade
+  is-module op held = rw (le-ltb 65536 (length card) (reads .small))
+
+  -- what is laid, and what is listed of it
+  places-are : cardPlaces card Whole ≡ Places
+  places-are =
+      let e = reads .is-card .encoded in
+      let s = whole-small in
+      let c = apply-canonical upstream upstream-chooses (tree root) (tree card) (reads .is-card .fits)
+      (fits-shaped (tree root) path refl (reads .is-root .fits)) (omega (arith, s)) in
+      let l : length (encode (tree card)) ≤ 65536 = rw e (reads .small) in
+      ap (λ (b : Bytes). cardPlaces b Whole) (sym e)
+      ∙ listing-card upstream _ (tree card) Output (reads .is-card .fits) (reads .is-card .canonical) c
+      (apply-point upstream upstream-names upstream-chooses upstream-marks (tree root) (tree card) (reads .is-card .fits)) (reads .is-card .shallow) l
+      (omega (arith, s))
+
+  -- what each answer leaves
+  abbrev pub Chosen : {A : Type 0} → (most : ℕ) → (out : Bytes) (list : List ℕ) → (full : ℕ → A) → (no-room few-words done : A) → A
+  Chosen most out list full no-room few-words done =
+      whether (FullAt most) (cond (ltb (length out) (length Whole)) no-room (cond (ltb (length list) (2 * length Places)) few-words done)) full
+
+  pub record Result (words list : List ℕ) (out : Bytes) (o : Placing) : Type 0 where
+    pub answer-is : o .answer ≡ Chosen (room words) out list Full NoRoom FewWords (Done (length Whole) (length Places))
+    pub out-is : o .out ≡ Chosen (room words) out list (λ place. out) out out (Whole ++ drop (length Whole) out)
+    pub list-is : o .list ≡ Chosen (room words) out list (λ place. list) list list (entryWords Places ++ drop (2 * length Places) list)
+    pub words-long : length (o .words) ≡ length words
+
+  module _ (words : List ℕ) where
+    first : Outermost Weighed card root (room words) (table 0 words) (weighedMade card root words)
+    unfolding weighedMade
+    first = rw (is-module Weighed (table 0 words)) (outermost-is Weighed card root n sound bc br 65537 (table 0 words) (λ e. absurd (omega (arith, e))))
+
+    abbrev Left : List ℕ
+    Left = weighedMade card root words .held .words
+
+    second : Outermost Upstream card root (room words) (table 0 Left) (plainMade card root words)
+    unfolding plainMade
+    second =
+        rw (is-module Upstream (table 0 Left), sym (ap (λ (x : ℕ). min (x / 4) 65535) (first .long)))
+        (outermost-is Upstream card root n sound bc br 65537 (table 0 Left) (λ e. absurd (omega (arith, e))))
+
+    -- where no table is full
+    module _ (e : FullAt (room words) ≡ none) where
+      weighed-is : length (weighedMade card root words .bytes) ≡ length Whole + 2 ^ 24 * length Places
+      weighed-is =
+          ap length (first .bytes e) ∙ weighed-length (weightBytes Weighed) 0 (tree card) Output
+          ∙ ap (λ (x : ℕ). length Whole + x * length Places) (weight-length Weighed)
+
+      plain-is : plainMade card root words .bytes ≡ Whole
+      plain-is = second .bytes e ∙ rw (weight-none Upstream refl) (weightless (tree card) Output)
+
+      length-is : length (weighedMade card root words .bytes) % 2 ^ 24 ≡ length Whole
+      length-is = ap (λ (x : ℕ). x % 2 ^ 24) weighed-is ∙ apart-length (length Whole) (length Places) whole-small
+
+      entries-are : length (weighedMade card root words .bytes) / 2 ^ 24 ≡ length Places
+      entries-are = ap (λ (x : ℕ). x / 2 ^ 24) weighed-is ∙ apart-entries (length Whole) (length Places) whole-small
+
+    counted-sound : (list : List ℕ) (out : Bytes) → Result words list out (countedFirst card root words list out)
+    unfolding countedFirst
+    counted-sound list out = go (FullAt (room words)) refl
+      where
+        listed : length Whole ≤ length out → 2 * length Places ≤ length list
+            → lay list 0 (entryWords (cardPlaces card (take (length Whole) (lay out 0 Whole)))) ≡ entryWords Places ++ drop (2 * length Places) list
+        listed l k =
+            let x = words-length Places in
+            ap (λ (b : Bytes). lay list 0 (entryWords (cardPlaces card (take (length Whole) b)))) (lay-whole out Whole l)
+            ∙ ap (λ (b : Bytes). lay list 0 (entryWords (cardPlaces card b))) (take-append-seam Whole (drop (length Whole) out))
+            ∙ ap (λ (es : List Entry). lay list 0 (entryWords es)) places-are
+            ∙ lay-whole list (entryWords Places) (omega (arith, x, k))
+            ∙ ap (λ (m : ℕ). entryWords Places ++ drop m list) x
+
+        go : (o : Option ℕ) → FullAt (room words) ≡ o → Result words list out (countedFirst card root words list out)
+        go none e =
+            let zero-full : weighedMade card root words .full ≡ 0 = first .full ∙ ap (λ (x : Option ℕ). whether x 0 suc) e in
+            by-test (ltb (length out) (length Whole))
+            (λ t. rw (zero-full, length-is e, t) (record { answer-is = rw (e, t); out-is = rw (e, t); list-is = rw (e, t); words-long = first .long }))
+            (λ t. by-test (ltb (length list) (2 * length Places))
+            (λ u. rw (zero-full, length-is e, entries-are e, t, two-each (length list) (length Places), u)
+            (record { answer-is = rw (e, t, u); out-is = rw (e, t, u); list-is = rw (e, t, u); words-long = first .long }))
+            (λ u. rw (zero-full, length-is e, entries-are e, t, two-each (length list) (length Places), u, plain-is e)
+            (record {
+              answer-is = rw (e, t, u);
+              out-is = rw (e, t, u) (lay-whole out Whole (ltb-false (length out) (length Whole) t));
+              list-is = rw (e, t, u) (listed (ltb-false (length out) (length Whole) t) (ltb-false (length list) (2 * length Places) u));
+              words-long = second .long ∙ first .long;
+            })))
+        go (some place) e =
+            let some-full : weighedMade card root words .full ≡ suc place = first .full ∙ ap (λ (x : Option ℕ). whether x 0 suc) e in
+            let less : suc place - 1 ≡ place = omega arith in
+            rw (some-full, lt-ltb 0 (suc place) (omega arith), less)
+            (record { answer-is = rw e; out-is = rw e; list-is = rw e; words-long = first .long })
+
+    -- written as without a list: then the list suffices
+    room-same : (out : Bytes) → length Whole ≤ length out → length (Whole ++ drop (length Whole) out) ≡ length out
+    room-same out l = let a = length-append Whole (drop (length Whole) out) in let b = length-drop (length Whole) out in omega (arith, l, a, b)
+
+    first-sound : (list : List ℕ) (out : Bytes) → length out / 3 ≤ length list → Result words list out (writtenFirst card root words list out)
+    unfolding writtenFirst
+    first-sound list out k = go (FullAt (room words)) refl
+      where
+        written : Unweighed Upstream card root n sound bc br words out (wholeOutput Upstream card root words out)
+        written = whole-sound Upstream card root n sound bc br refl words out
+
+        go : (o : Option ℕ) → FullAt (room words) ≡ o → Result words list out (writtenFirst card root words list out)
+        go (some place) e =
+            rw (written .answer-is, written .out-is, e)
+            (record { answer-is = rw e; out-is = rw e; list-is = rw e; words-long = written .words-long })
+        go none e =
+            by-test (ltb (length out) (length Whole))
+            (λ t. rw (written .answer-is, written .out-is, e, t, t)
+            (record { answer-is = rw (e, t); out-is = rw (e, t); list-is = rw (e, t); words-long = written .words-long }))
+            (λ t. let l = ltb-false (length out) (length Whole) t in
+            let f = places-few 0 (tree card) Output in
+            let u : ltb (length list) (2 * length Places) ≡ false = le-ltb (length list) (2 * length Places) (omega (arith, l, f, k)) in
+            let x = words-length Places in
+            rw (
+              written .answer-is,
+              written .out-is,
+              e,
+              t,
+              room-same out l,
+              t,
+              take-append-seam Whole (drop (length Whole) out),
+              places-are,
+              lay-whole list (entryWords Places) (let v = ltb-false (length list) (2 * length Places) u in omega (arith, x, v)),
+              x,
+            )
+            (record { answer-is = rw (e, t, u); out-is = rw (e, t, u); list-is = rw (e, t, u); words-long = written .words-long }))
+
+    -- THE LAW
+    pub placed-sound : (list : List ℕ) (out : Bytes) → Result words list out (placed card root words list out)
+    unfolding placed
+    placed-sound list out =
+        by-test (leb (length out / 3) (length list))
+        (λ t. rw t (first-sound list out (leb-true (length out / 3) (length list) t)))
+        (λ t. rw t (counted-sound list out))

@@ -1,0 +1,69 @@
+-- The output with its list (02, request 1). A list that has a word for every three bytes of the out buffer suffices, since an entry's record has six: the output
+-- is then written as without a list, and listed. Else it is measured and counted first, so that 8, 9 and 10 are known before anything is written. Assumes
+-- nothing: these are definitions.
+use mathlib.Core.Bool.{cond}
+use mathlib.Core.List.{List}
+use Prim.Native.Nat.{ℕ, _-_, _/_, _%_, _^_}
+use lib.ListN.{length, take}
+use lib.Dec.{leb, ltb}
+use Rattle.wire.specs.Numbers.{Bytes}
+use Rattle.operation.specs.declared.Shortening.the-variants.{Upstream, Weighed}
+use Rattle.adding.specs.Adds.{table}
+use Rattle.laying.specs.Lays.{lay}
+use Rattle.places.specs.Places.{Entry, entryWords}
+use Rattle.listing.specs.Lists.{cardPlaces}
+use Rattle.modules.specs.Modules.{Made, cardMade}
+use Rattle.measuring.specs.declared.Written.{Written}
+use Rattle.measuring.specs.declared.Written.the-variants.{Full as Overfull, Length}
+use Rattle.measuring.specs.Measured.{Output, wholeOutput}
+use Rattle.placing.specs.declared.Tally.{Tally}
+use Rattle.placing.specs.declared.Placed.{Placed}
+use Rattle.placing.specs.declared.Placed.the-variants.{Full, NoRoom, FewWords, Done}
+
+-- what is answered, and what the out buffer, the words and the list then hold
+pub record Placing : Type 0 where
+  pub answer : Placed
+  pub out : Bytes
+  pub words : List ℕ
+  pub list : List ℕ
+
+abbrev pub placing : Placed → Bytes → (words list : List ℕ) → Placing
+placing answer out words list = record { answer = answer; out = out; words = words; list = list }
+
+-- a weighed length taken apart: each entry weighs 2 ^ 24, and an output is shorter than that
+abbrev pub tallyOf : Made → Tally
+tallyOf m = record { full = m .full; length = length (m .bytes) % 2 ^ 24; entries = length (m .bytes) / 2 ^ 24 }
+
+-- listed after it was written
+abbrev pub listedAfter : (card : Bytes) → Written → Bytes → (words list : List ℕ) → Placing
+listedAfter card (Overfull place) out words list = placing (Full place) out words list
+listedAfter card (Length n) out words list =
+    let es : List Entry = cardPlaces card (take n out) in
+    cond (ltb (length out) n) (placing NoRoom out words list) (placing (Done n (length es)) out words (lay list 0 (entryWords es)))
+
+module _ (card root : Bytes) where
+  unfoldable pub weighedMade : List ℕ → Made
+  weighedMade words = cardMade Weighed card root 65537 (table 0 words)
+
+  -- the output itself, by words that hold no table of this operation
+  unfoldable pub plainMade : List ℕ → Made
+  plainMade words = cardMade Upstream card root 65537 (table 0 (weighedMade words .held .words))
+
+  unfoldable pub countedFirst : (words list : List ℕ) → Bytes → Placing
+  countedFirst words list out =
+      let m : Made = weighedMade words in
+      let w : Made = plainMade words in
+      let t : Tally = tallyOf m in
+      let after : Bytes = lay out 0 (w .bytes) in
+      cond (ltb 0 (t .full)) (placing (Full (t .full - 1)) out (m .held .words) list)
+      (cond (ltb (length out) (t .length)) (placing NoRoom out (m .held .words) list)
+      (cond (ltb (length list / 2) (t .entries)) (placing FewWords out (m .held .words) list)
+      (placing (Done (t .length) (t .entries)) after (w .held .words) (lay list 0 (entryWords (cardPlaces card (take (t .length) after)))))))
+
+  unfoldable pub writtenFirst : (words list : List ℕ) → Bytes → Placing
+  writtenFirst words list out =
+      let o : Output = wholeOutput Upstream card root words out in
+      listedAfter card (o .answer) (o .out) (o .words) list
+
+  unfoldable pub placed : (words list : List ℕ) → Bytes → Placing
+  placed words list out = cond (leb (length out / 3) (length list)) (writtenFirst words list out) (countedFirst words list out)

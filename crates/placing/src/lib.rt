@@ -1,0 +1,107 @@
+// The output with the list of its changed points. Where the list surely suffices, the output is written and then listed. Else the walk that writes measures first, over an empty part of the out buffer, by the operation that gives each
+// changed point a weight: its length says how long the output is and how many entries there are. The list is filled once the output is written.
+use measuring::Written;
+use operation::Shortening;
+ghost use mathlib.Core.Path.{_≡_};
+ghost use mathlib.Core.List.{[]};
+ghost use Rattle.placing.specs.Placing.{tallyOf, weighedMade, placing, countedFirst, listedAfter, placed};
+
+pub struct Tally {
+    // the place after that of the first module whose table is full, or 0
+    pub full: usize,
+    pub length: usize,
+    pub entries: usize,
+}
+
+pub enum Placed {
+    // the place of the first module whose table is full
+    Full(usize),
+    NoRoom,
+    // fewer than two words for each entry
+    FewWords,
+    // how long the output is, and how many entries there are
+    Done(usize, usize),
+}
+
+// Leaves the out buffer.
+fn measure(card: &[u8], root: &[u8], out: &mut [u8], work: &mut [u32]) -> Tally
+    ensures { λ r. ⌜ (r ≡ tallyOf (weighedMade (now (card .entry)) (now (root .entry)) (now (work .entry)))) × (now (out .exit) ≡ now (out .entry))
+        × (now (work .exit) ≡ weighedMade (now (card .entry)) (now (root .entry)) (now (work .entry)) .held .words) ⌝ }
+{
+    let m = writing::write_card(
+        Shortening::Weighed,
+        card,
+        root,
+        &mut out[..0],
+        work,
+        65537,
+        0,
+    );
+    let n = m.length;
+    Tally {
+        full: m.full,
+        length: n % 16777216,
+        entries: n / 16777216,
+    }
+}
+
+fn count_first(
+    card: &[u8],
+    root: &[u8],
+    out: &mut [u8],
+    work: &mut [u32],
+    list: &mut [u32],
+) -> Placed
+    ensures { λ r. ⌜ placing r (now (out .exit)) (now (work .exit)) (now (list .exit))
+        ≡ countedFirst (now (card .entry)) (now (root .entry)) (now (work .entry)) (now (list .entry)) (now (out .entry)) ⌝ }
+{
+    let t = measure(card, root, out, work);
+    let full = t.full;
+    if 0 < full {
+        return Placed::Full(full - 1);
+    }
+    let n = t.length;
+    if out.len() < n {
+        return Placed::NoRoom;
+    }
+    let k = t.entries;
+    if list.len() / 2 < k {
+        return Placed::FewWords;
+    }
+    writing::write_card(Shortening::Upstream, card, root, out, work, 65537, 0);
+    listing::list_places(card, &out[..n], list);
+    Placed::Done(n, k)
+}
+
+// What was written, listed.
+fn list_after(w: Written, card: &[u8], out: &[u8], list: &mut [u32]) -> Placed
+    ensures { λ r. ⌜ placing r (now (out .entry)) [] (now (list .exit)) ≡ listedAfter (now (card .entry)) w (now (out .entry)) [] (now (list .entry)) ⌝ }
+{
+    match w {
+        Written::Full(place) => Placed::Full(place),
+        Written::Length(n) => {
+            if out.len() < n {
+                return Placed::NoRoom;
+            }
+            let k = listing::list_places(card, &out[..n], list);
+            Placed::Done(n, k)
+        }
+    }
+}
+
+pub fn write_places(
+    card: &[u8],
+    root: &[u8],
+    out: &mut [u8],
+    work: &mut [u32],
+    list: &mut [u32],
+) -> Placed
+    ensures { λ r. ⌜ placing r (now (out .exit)) (now (work .exit)) (now (list .exit))
+        ≡ placed (now (card .entry)) (now (root .entry)) (now (work .entry)) (now (list .entry)) (now (out .entry)) ⌝ }
+{
+    if out.len() / 3 <= list.len() {
+        let w = measuring::write(Shortening::Upstream, card, root, out, work);
+        return list_after(w, card, out, list);
+    }
+    count_first(card, root, out, work, list)
+}

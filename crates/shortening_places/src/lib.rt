@@ -1,0 +1,79 @@
+// The public call with a lent list of places. And the same with work words of its own.
+use answers::Answer;
+use answers::Verdict;
+use placing::Placed;
+ghost use mathlib.Core.Path.{_≡_};
+ghost use Rattle.shortening_places.specs.Placed.{listedOf, Promise, Alone};
+
+pub struct Listed {
+    pub answer: Answer,
+    // how many entries the list has, two words each; 0 where the answer is a refusal
+    pub entries: usize,
+}
+
+fn listed_of(p: Placed) -> Listed
+    ensures { λ r. ⌜ r ≡ listedOf p ⌝ }
+{
+    match p {
+        Placed::Full(place) => Listed {
+            answer: Answer::FullTable(place),
+            entries: 0,
+        },
+        Placed::NoRoom => Listed {
+            answer: Answer::NoSpace,
+            entries: 0,
+        },
+        Placed::FewWords => Listed {
+            answer: Answer::ShortList,
+            entries: 0,
+        },
+        Placed::Done(n, k) => Listed {
+            answer: Answer::Shortened(n),
+            entries: k,
+        },
+    }
+}
+
+// A table has the first 2048 of the work words: 512 pairs.
+pub fn shorten_places(
+    card: &[u8],
+    root: &[u8],
+    out: &mut [u8],
+    work: &mut [u32],
+    list: &mut [u32],
+) -> Listed
+    ensures { λ r. ⌜ Promise (now (card .entry)) (now (root .entry)) (now (out .entry)) (now (work .entry)) (now (list .entry))
+        r (now (out .exit)) (now (work .exit)) (now (list .exit)) ⌝ }
+{
+    let v = admission::admit(card, root, work.len());
+    match v {
+        Verdict::Sound => {}
+        Verdict::Refused(a) => {
+            return Listed {
+                answer: a,
+                entries: 0,
+            };
+        }
+    }
+    let p = placing::write_places(card, root, out, &mut work[..2048], list);
+    work::clear(work);
+    listed_of(p)
+}
+
+// With work words of its own: what `shorten_places` answers with 2048. They are made once the card is admitted, and nobody sees them after the call.
+pub fn shorten_places_alone(card: &[u8], root: &[u8], out: &mut [u8], list: &mut [u32]) -> Listed
+    ensures { λ r. ⌜ Alone (now (card .entry)) (now (root .entry)) (now (out .entry)) (now (list .entry)) r (now (out .exit)) (now (list .exit)) ⌝ }
+{
+    let v = admission::admit(card, root, 2048);
+    match v {
+        Verdict::Sound => {}
+        Verdict::Refused(a) => {
+            return Listed {
+                answer: a,
+                entries: 0,
+            };
+        }
+    }
+    let mut work: [u32; 2048] = [0; 2048];
+    listed_of(placing::write_places(card, root, out, &mut work, list))
+}

@@ -1,5 +1,6 @@
-// The output with the list of its changed points. Where the list surely suffices, the output is written and then listed. Else the walk that writes measures first, over an empty part of the out buffer, by the operation that gives each
-// changed point a weight: its length says how long the output is and how many entries there are. The list is filled once the output is written.
+// The output with the list of its changed points. Where the list surely suffices, the output is written and then listed. Else the walk that writes measures
+// first, over an empty part of the out buffer, by the operation that gives each changed point a weight: its length says how long the output is and how many
+// entries there are. The list is filled once the output is written.
 use measuring::Written;
 use operation::Shortening;
 ghost use mathlib.Core.Path.{_≡_};

@@ -2,17 +2,17 @@
 use std::borrow::Borrow;
 use std::collections::BTreeMap;
 use yardstick::random::Draws;
-use yardstick::text::{digits, Vector};
-use yardstick::{tree, walk, Answer, Listed, MOST_CARD, MOST_ENTRIES, MOST_TIMES, WORDS};
+use yardstick::text::{question, Vector};
+use yardstick::{tree, walk, Answer, Listed, Operation, MOST_CARD, MOST_ENTRIES, MOST_TIMES, WORDS};
 
 /// Words of a list that is long enough for every output.
 pub const LONG: usize = 2 * MOST_ENTRIES;
 
-/// Card, root, out buffer, and how many work words.
-type Call = fn(&[u8], &[u8], &mut [u8], usize) -> Answer;
+/// Operation, card, root, out buffer, and how many work words.
+type Call = fn(Operation, &[u8], &[u8], &mut [u8], usize) -> Answer;
 
 /// The same with a list, and where the number of its entries goes.
-type ListCall = fn(&[u8], &[u8], &mut [u8], usize, &mut [u32], &mut u32) -> Answer;
+type ListCall = fn(Operation, &[u8], &[u8], &mut [u8], usize, &mut [u32], &mut u32) -> Answer;
 
 pub struct Way {
     pub what: &'static str,
@@ -26,25 +26,25 @@ pub const WAYS: &[Way] = &[
     #[cfg(feature = "console")]
     Way {
         what: "console",
-        call: |card, root, out, _| yardstick::console::shorten(card, root, out),
-        list_call: |card, root, out, _, list, entries| {
-            yardstick::console::shorten_places(card, root, out, list, entries)
+        call: |operation, card, root, out, _| yardstick::console::shorten(operation, card, root, out),
+        list_call: |operation, card, root, out, _, list, entries| {
+            yardstick::console::shorten_places(operation, card, root, out, list, entries)
         },
         own_words: true,
     },
     Way {
         what: "tree",
         call: tree::shorten,
-        list_call: |card, root, out, words, list, entries| {
-            counted(tree::shorten_places(card, root, out, words, list), entries)
+        list_call: |operation, card, root, out, words, list, entries| {
+            counted(tree::shorten_places(operation, card, root, out, words, list), entries)
         },
         own_words: false,
     },
     Way {
         what: "walk",
         call: walk::shorten,
-        list_call: |card, root, out, words, list, entries| {
-            counted(walk::shorten_places(card, root, out, words, list), entries)
+        list_call: |operation, card, root, out, words, list, entries| {
+            counted(walk::shorten_places(operation, card, root, out, words, list), entries)
         },
         own_words: false,
     },
@@ -75,50 +75,77 @@ impl Given {
 }
 
 pub struct Case {
+    /// Both are compared where it names none.
+    operation: Option<Operation>,
     pub root: Vec<u8>,
     pub card: Vec<u8>,
     /// How many bytes of the out buffer are lent, and how many words.
     pub out: usize,
     pub words: usize,
-    /// Where it is known beforehand what is due, and with how many words of a list, if one is lent.
-    due: Option<(Option<usize>, Given)>,
+    due: Option<Due>,
+}
+
+/// What is due, where that is known beforehand: by which operation, and with how many words of a list, if one is
+/// lent.
+struct Due {
+    operation: Operation,
+    lent: Option<usize>,
+    given: Given,
 }
 
 impl Case {
     pub fn new(root: Vec<u8>, card: Vec<u8>, out: usize, words: usize) -> Case {
-        Case { root, card, out, words, due: None }
+        Case { operation: None, root, card, out, words, due: None }
+    }
+
+    /// Only by this operation.
+    pub fn by(self, operation: Operation) -> Case {
+        Case { operation: Some(operation), ..self }
     }
 
     pub fn of_vector(v: Vector) -> Case {
+        let operation = v.operation.unwrap_or(Operation::Upstream);
         let given = Given { answer: v.answer, output: v.output, list: v.list };
-        Case { root: v.root, card: v.card, out: v.out, words: v.words, due: Some((v.lent, given)) }
+        let due = Some(Due { operation, lent: v.lent, given });
+        Case { operation: v.operation, root: v.root, card: v.card, out: v.out, words: v.words, due }
     }
 
-    pub fn call(&self, way: &Way, out: &mut [u8]) -> Answer {
-        (way.call)(&self.card, &self.root, &mut out[..self.out], self.words)
+    fn operations(&self) -> impl Iterator<Item = Operation> {
+        let named = self.operation;
+        Operation::BOTH.into_iter().filter(move |&each| named.is_none_or(|named| named == each))
     }
 
-    pub fn list_call(&self, way: &Way, out: &mut [u8], list: &mut [u32], entries: &mut u32) -> Answer {
-        (way.list_call)(&self.card, &self.root, &mut out[..self.out], self.words, list, entries)
+    pub fn call(&self, way: &Way, operation: Operation, out: &mut [u8]) -> Answer {
+        (way.call)(operation, &self.card, &self.root, &mut out[..self.out], self.words)
+    }
+
+    pub fn list_call(
+        &self,
+        way: &Way,
+        operation: Operation,
+        out: &mut [u8],
+        list: &mut [u32],
+        entries: &mut u32,
+    ) -> Answer {
+        (way.list_call)(operation, &self.card, &self.root, &mut out[..self.out], self.words, list, entries)
     }
 
     /// How many words of a list are lent beforehand.
     fn lent(&self) -> Option<usize> {
-        self.due.as_ref().and_then(|(lent, _)| *lent)
+        self.due.as_ref().and_then(|due| due.lent)
     }
 
     /// What is due with so many words of a list, where it is known beforehand.
-    fn due(&self, lent: Option<usize>) -> Option<Given> {
-        self.due.as_ref().filter(|(known, _)| *known == lent).map(|(_, given)| given.clone())
+    fn due(&self, operation: Operation, lent: Option<usize>) -> Option<Given> {
+        let due = self.due.as_ref().filter(|due| (due.operation, due.lent) == (operation, lent));
+        due.map(|due| due.given.clone())
     }
 
     /// As a line of the vectors, without its answer.
-    fn line(&self, lent: Option<usize>) -> String {
-        let plain = format!("{} {} {} {}", digits(&self.root), digits(&self.card), self.out, self.words);
-        match lent {
-            Some(lent) => format!("old {plain} {lent}"),
-            None => plain,
-        }
+    fn line(&self, operation: Operation, lent: Option<usize>) -> String {
+        // Without a list the line of the old operation doesn't name it.
+        let named = Some(operation).filter(|_| (operation, lent) != (Operation::Upstream, None));
+        question(named, &self.root, &self.card, self.out, self.words, lent)
     }
 }
 
@@ -157,7 +184,13 @@ impl Buffers {
         Buffers { out: before.clone(), before, list: list_before.clone(), list_before, draws: Draws(1) }
     }
 
-    fn call(&mut self, case: &Case, way: &Way, lent: Option<usize>) -> (Answer, Seen<'_>) {
+    fn call(
+        &mut self,
+        case: &Case,
+        way: &Way,
+        operation: Operation,
+        lent: Option<usize>,
+    ) -> (Answer, Seen<'_>) {
         let (before, out) = (&self.before[..case.out], &mut self.out[..case.out]);
         let words = lent.unwrap_or(0);
         let (list_before, list) = (&self.list_before[..words], &mut self.list[..words]);
@@ -165,8 +198,8 @@ impl Buffers {
         list.copy_from_slice(list_before);
         let mut entries = NO_ENTRIES;
         let answer = match lent {
-            None => case.call(way, out),
-            Some(_) => case.list_call(way, out, list, &mut entries),
+            None => case.call(way, operation, out),
+            Some(_) => case.list_call(way, operation, out, list, &mut entries),
         };
         let entries = match (answer, lent) {
             (Ok(_), Some(_)) => entries as usize,
@@ -183,12 +216,13 @@ impl Buffers {
         &mut self,
         ways: impl IntoIterator<Item = &'w Way>,
         case: &Case,
+        operation: Operation,
         lent: Option<usize>,
         mut due: Option<Given>,
     ) -> Result<Given, String> {
         let mut faults = Vec::new();
         for way in ways {
-            let (answer, seen) = self.call(case, way, lent);
+            let (answer, seen) = self.call(case, way, operation, lent);
             let due = due.get_or_insert_with(|| {
                 let (output, list) = seen.unwrap_or_default();
                 Given { answer, output: output.to_vec(), list: list.to_vec() }
@@ -204,7 +238,7 @@ impl Buffers {
         }
         match (due, &faults[..]) {
             (Some(given), []) => Ok(given),
-            _ => Err(format!("{}\n    {}", faults.join("; "), case.line(lent))),
+            _ => Err(format!("{}\n    {}", faults.join("; "), case.line(operation, lent))),
         }
     }
 
@@ -221,19 +255,24 @@ impl Buffers {
 
     /// The answers to a case without a list and with one of the length known beforehand, else of a drawn one; or
     /// what is wrong with them or with those with a long list.
-    fn answers(&mut self, ways: &[Way], case: &Case) -> Result<(Answer, Answer), String> {
+    fn answers(
+        &mut self,
+        ways: &[Way],
+        case: &Case,
+        operation: Operation,
+    ) -> Result<(Answer, Answer), String> {
         // The console's call last, so that the others say what is due.
         let ways = || ways.iter().rev().filter(|way| case.words >= WORDS || !way.own_words);
-        let without = self.compare(ways(), case, None, case.due(None))?;
-        let long = self.compare(ways(), case, Some(LONG), None)?;
+        let without = self.compare(ways(), case, operation, None, case.due(operation, None))?;
+        let long = self.compare(ways(), case, operation, Some(LONG), None)?;
         if (long.answer, &long.output) != (without.answer, &without.output) {
             let (with, without) = (long.answer, without.answer);
-            let line = case.line(Some(LONG));
+            let line = case.line(operation, Some(LONG));
             return Err(format!("{with:?} with a list that suffices, {without:?} without one\n    {line}"));
         }
         let lent = case.lent().unwrap_or_else(|| self.length(long.list.len()));
-        let due = case.due(Some(lent)).unwrap_or_else(|| long.with_list(lent));
-        let with = self.compare(ways(), case, Some(lent), Some(due))?;
+        let due = case.due(operation, Some(lent)).unwrap_or_else(|| long.with_list(lent));
+        let with = self.compare(ways(), case, operation, Some(lent), Some(due))?;
         Ok((without.answer, with.answer))
     }
 }
@@ -253,34 +292,55 @@ impl Numbers {
     }
 }
 
-/// Compares all answers to these cases, and says how many there are of each number: whether none differs.
+/// What came of the cases of an operation: how many there are, how many differ, and the numbers of the answers
+/// without a list and with one.
+#[derive(Default)]
+struct Tally {
+    count: usize,
+    differ: usize,
+    without: Numbers,
+    with: Numbers,
+}
+
+/// Compares all answers to these cases, and says of each operation how many there are of each number: whether
+/// none differs.
 pub fn agree<C: Borrow<Case>>(what: &str, cases: impl IntoIterator<Item = C>, buffers: &mut Buffers) -> bool {
     const SHOWN: usize = 5;
-    let (mut count, mut differ) = (0, 0);
-    let (mut without, mut with) = (Numbers::default(), Numbers::default());
-    for case in cases {
-        count += 1;
-        match buffers.answers(WAYS, case.borrow()) {
-            Ok(answers) => {
-                without.count(answers.0);
-                with.count(answers.1);
-            }
-            Err(how) => {
-                differ += 1;
-                if differ <= SHOWN {
-                    println!("{what} {count}: {how}");
+    let mut tallies = Operation::BOTH.map(|operation| (operation, Tally::default()));
+    let mut shown = 0;
+    for (i, case) in cases.into_iter().enumerate() {
+        let case = case.borrow();
+        for operation in case.operations() {
+            let (_, tally) = &mut tallies[operation as usize];
+            tally.count += 1;
+            match buffers.answers(WAYS, case, operation) {
+                Ok(answers) => {
+                    tally.without.count(answers.0);
+                    tally.with.count(answers.1);
+                }
+                Err(how) => {
+                    tally.differ += 1;
+                    if shown < SHOWN {
+                        shown += 1;
+                        println!("{what} {}, {}: {how}", i + 1, operation.word());
+                    }
                 }
             }
         }
     }
     let ways: Vec<&str> = WAYS.iter().map(|way| way.what).collect();
-    println!(
-        "{what}: {differ} of {count} differ ({}); answers {}; with a list {}",
-        ways.join(", "),
-        without.shown(),
-        with.shown()
-    );
-    differ == 0
+    for (operation, tally) in tallies.iter().filter(|(_, tally)| tally.count > 0) {
+        println!(
+            "{what}, {}: {} of {} differ ({}); answers {}; with a list {}",
+            operation.word(),
+            tally.differ,
+            tally.count,
+            ways.join(", "),
+            tally.without.shown(),
+            tally.with.shown()
+        );
+    }
+    tallies.iter().all(|(_, tally)| tally.differ == 0)
 }
 
 #[cfg(test)]
@@ -295,18 +355,19 @@ mod tests {
         Case::new(path("crate"), module("m", &body), 1000, WORDS)
     }
 
-    /// What is said of tree beside one that does otherwise with a list; nothing, if nothing is.
-    fn beside(list_call: ListCall, case: &Case) -> String {
-        let other = Way { what: "other", call: tree::shorten, list_call, own_words: false };
+    /// What is said of tree beside another; nothing, if nothing is.
+    fn beside(call: Call, list_call: ListCall, case: &Case, operation: Operation) -> String {
+        let other = Way { what: "other", call, list_call, own_words: false };
         let tree = WAYS.iter().find(|way| way.what == "tree").unwrap();
         let tree = Way { what: "tree", ..*tree };
         let mut buffers = Buffers::new([]);
         // Often enough that each length is drawn.
         let ways = [other, tree];
-        (0..100).find_map(|_| buffers.answers(&ways, case).err()).unwrap_or_default()
+        (0..100).find_map(|_| buffers.answers(&ways, case, operation).err()).unwrap_or_default()
     }
 
     fn tree_list(
+        operation: Operation,
         card: &[u8],
         root: &[u8],
         out: &mut [u8],
@@ -314,84 +375,109 @@ mod tests {
         list: &mut [u32],
         entries: &mut u32,
     ) -> Answer {
-        counted(tree::shorten_places(card, root, out, words, list), entries)
+        counted(tree::shorten_places(operation, card, root, out, words, list), entries)
     }
 
     #[test]
     fn own_cards() {
         let mut buffers = Buffers::new([]);
-        for c in own::cases() {
-            let out = c.card.len() * MOST_TIMES;
-            let answers = buffers.answers(WAYS, &Case::new(c.root, c.card, out, c.words));
-            assert!(answers.is_ok(), "{}: {answers:?}", c.sort);
+        for c in own::cases().into_iter().chain(own::differing()) {
+            let case = Case::new(c.root, c.card.clone(), c.card.len() * MOST_TIMES, c.words);
+            for operation in case.operations() {
+                let answers = buffers.answers(WAYS, &case, operation);
+                assert!(answers.is_ok(), "{}: {answers:?}", c.sort);
+            }
         }
     }
 
     #[test]
     fn the_same_way_twice() {
-        assert_eq!(beside(tree_list, &case()), "");
+        for operation in Operation::BOTH {
+            assert_eq!(beside(tree::shorten, tree_list, &case(), operation), "");
+        }
+    }
+
+    /// One that doesn't look at the operation, without a list or with one.
+    #[test]
+    fn operations_are_told_apart() {
+        let upstream: Call =
+            |_, card, root, out, words| tree::shorten(Operation::Upstream, card, root, out, words);
+        let upstream_list: ListCall = |_, card, root, out, words, list, entries| {
+            tree_list(Operation::Upstream, card, root, out, words, list, entries)
+        };
+        for c in own::differing() {
+            let case = Case::new(c.root, c.card.clone(), c.card.len() * MOST_TIMES, c.words);
+            let said = beside(upstream, tree_list, &case, Operation::Straight);
+            assert!(said.starts_with("other answers ") && said.ends_with(" x x"), "{}", c.sort);
+            let said = beside(tree::shorten, upstream_list, &case, Operation::Straight);
+            assert!(said.contains("other answers ") && said.contains("\n    straight "), "{}", c.sort);
+        }
     }
 
     #[test]
     fn faults_are_found() {
-        let said = |list_call| beside(list_call, &case());
+        Operation::BOTH.into_iter().for_each(faults_are_found_by);
+    }
+
+    fn faults_are_found_by(operation: Operation) {
+        let said = |list_call| beside(tree::shorten, list_call, &case(), operation);
         // Another word or byte behind what is due, another number of entries.
-        let word = said(|card, root, out, words, list, entries| {
-            let answer = tree_list(card, root, out, words, list, entries);
+        let word = said(|operation, card, root, out, words, list, entries| {
+            let answer = tree_list(operation, card, root, out, words, list, entries);
             if let Some(word) = list.get_mut(2 * *entries as usize) {
                 *word ^= 1;
             }
             answer
         });
         assert!(word.contains(" and other words behind, not Ok("), "{word}");
-        let more = said(|card, root, out, words, list, entries| {
-            let answer = tree_list(card, root, out, words, list, entries);
+        let more = said(|operation, card, root, out, words, list, entries| {
+            let answer = tree_list(operation, card, root, out, words, list, entries);
             *entries = entries.wrapping_add(1);
             answer
         });
         assert!(more.contains(" with another list, not Ok("), "{more}");
-        let fewer = said(|card, root, out, words, list, entries| {
-            let answer = tree_list(card, root, out, words, list, entries)?;
+        let fewer = said(|operation, card, root, out, words, list, entries| {
+            let answer = tree_list(operation, card, root, out, words, list, entries)?;
             *entries -= 1;
             list[2 * *entries as usize..].iter_mut().for_each(|word| *word = 0);
             Ok(answer)
         });
         assert!(fewer.contains(" and other words behind, not Ok("), "{fewer}");
-        let byte = said(|card, root, out, words, list, entries| {
-            let answer = tree_list(card, root, out, words, list, entries);
+        let byte = said(|operation, card, root, out, words, list, entries| {
+            let answer = tree_list(operation, card, root, out, words, list, entries);
             out[answer.unwrap_or(0)] ^= 1;
             answer
         });
         assert!(byte.contains(" and other bytes behind, not Ok("), "{byte}");
         // Another list, another output.
-        let list = said(|card, root, out, words, list, entries| {
-            let answer = tree_list(card, root, out, words, list, entries)?;
+        let list = said(|operation, card, root, out, words, list, entries| {
+            let answer = tree_list(operation, card, root, out, words, list, entries)?;
             list[1] ^= 1;
             Ok(answer)
         });
         assert!(list.contains(" with another list, not Ok("), "{list}");
-        let output = said(|card, root, out, words, list, entries| {
-            let answer = tree_list(card, root, out, words, list, entries)?;
+        let output = said(|operation, card, root, out, words, list, entries| {
+            let answer = tree_list(operation, card, root, out, words, list, entries)?;
             out[6] ^= 1;
             Ok(answer)
         });
         assert!(output.contains(" with another output, not Ok("), "{output}");
         // A list that is too short by one word, or by one entry, is taken.
-        let odd = said(|card, root, out, words, list, entries| {
+        let odd = said(|operation, card, root, out, words, list, entries| {
             let mut longer = [&*list, &[0]].concat();
-            let answer = tree_list(card, root, out, words, &mut longer, entries)?;
+            let answer = tree_list(operation, card, root, out, words, &mut longer, entries)?;
             list.copy_from_slice(&longer[..list.len()]);
             Ok(answer)
         });
         assert!(odd.contains("not Err((10, 0))"), "{odd}");
         // A refusal leaves a number of entries, or words of the list.
-        let number = said(|card, root, out, words, list, entries| {
+        let number = said(|operation, card, root, out, words, list, entries| {
             *entries = 0;
-            tree_list(card, root, out, words, list, entries)
+            tree_list(operation, card, root, out, words, list, entries)
         });
         assert!(number.contains(" and a number of entries, not Err((10, 0))"), "{number}");
-        let words = said(|card, root, out, words, list, entries| {
-            let answer = tree_list(card, root, out, words, list, entries);
+        let words = said(|operation, card, root, out, words, list, entries| {
+            let answer = tree_list(operation, card, root, out, words, list, entries);
             if let (Err(_), Some(word)) = (answer, list.first_mut()) {
                 *word ^= 1;
             }
@@ -405,41 +491,67 @@ mod tests {
     fn order_is_seen() {
         let mut case = case();
         case.out = 20;
-        let said = beside(
-            |card, root, out, words, list, entries| {
-                tree_list(card, root, &mut [0; 1000], words, &mut list.to_vec(), &mut 0)?;
-                tree_list(card, root, out, words, list, entries)
-            },
-            &case,
-        );
-        assert!(said.contains("other answers Err((10, 0))"), "{said}");
-        assert!(said.contains("not Err((9, 0))"), "{said}");
+        for operation in Operation::BOTH {
+            let said = beside(
+                tree::shorten,
+                |operation, card, root, out, words, list, entries| {
+                    tree_list(operation, card, root, &mut [0; 1000], words, &mut list.to_vec(), &mut 0)?;
+                    tree_list(operation, card, root, out, words, list, entries)
+                },
+                &case,
+                operation,
+            );
+            assert!(said.contains("other answers Err((10, 0))"), "{said}");
+            assert!(said.contains("not Err((9, 0))"), "{said}");
+        }
     }
 
     /// What is stated counts, and the length that is stated is lent.
     #[test]
     fn stated_lists() {
+        Operation::BOTH.into_iter().for_each(stated_lists_of);
+    }
+
+    fn stated_lists_of(operation: Operation) {
         let mut buffers = Buffers::new([]);
         let given = |case: &Case| {
             let (mut out, mut list) = (vec![0; case.out], vec![0; LONG]);
             let (length, entries) =
-                tree::shorten_places(&case.card, &case.root, &mut out, WORDS, &mut list).unwrap();
+                tree::shorten_places(operation, &case.card, &case.root, &mut out, WORDS, &mut list).unwrap();
             let (output, list) = (out[..length].to_vec(), list[..2 * entries].to_vec());
             Given { answer: Ok(length), output, list }
         };
         let mut case = case();
         let due = given(&case);
         let words = due.list.len();
-        case.due = Some((Some(words), due.clone()));
-        assert_eq!(buffers.answers(WAYS, &case), Ok((due.answer, due.answer)));
-        case.due = Some((Some(words - 1), due.with_list(words - 1)));
-        assert_eq!(buffers.answers(WAYS, &case), Ok((due.answer, Err((10, 0)))));
-        case.due = Some((Some(words - 1), due.clone()));
-        assert!(buffers.answers(WAYS, &case).is_err());
+        let mut answers = |lent, given| {
+            case.due = Some(Due { operation, lent: Some(lent), given });
+            buffers.answers(WAYS, &case, operation)
+        };
+        assert_eq!(answers(words, due.clone()), Ok((due.answer, due.answer)));
+        assert_eq!(answers(words - 1, due.with_list(words - 1)), Ok((due.answer, Err((10, 0)))));
+        assert!(answers(words - 1, due.clone()).is_err());
         let mut other = due.clone();
         other.list[3] += 1;
-        case.due = Some((Some(words), other));
-        let said = buffers.answers(WAYS, &case).unwrap_err();
-        assert!(said.contains("with another list") && said.contains(&format!("old {}", case.line(None))));
+        let said = answers(words, other).unwrap_err();
+        assert!(said.contains("with another list") && said.contains(&case.line(operation, Some(words))));
+        // What is stated of one operation says nothing of the other.
+        for other in Operation::BOTH {
+            let given = Given { answer: Err((9, 0)), output: vec![], list: vec![] };
+            case.due = Some(Due { operation, lent: Some(words), given });
+            assert_eq!(buffers.answers(WAYS, &case, other).is_ok(), other != operation);
+        }
+    }
+
+    /// A line is that of the vectors: `old` only with a list, `straight` with x for none and for no counts.
+    #[test]
+    fn lines() {
+        let mut case = case();
+        (case.root, case.card) = (vec![1], vec![2]);
+        let line = |operation, lent| case.line(operation, lent);
+        assert_eq!(line(Operation::Upstream, None), "01 02 1000 2048");
+        assert_eq!(line(Operation::Upstream, Some(4)), "old 01 02 1000 2048 4");
+        assert_eq!(line(Operation::Straight, None), "straight 01 02 1000 2048 x x");
+        assert_eq!(line(Operation::Straight, Some(4)), "straight 01 02 1000 2048 4 x");
     }
 }

@@ -13,6 +13,28 @@ pub mod text;
 pub mod tree;
 pub mod walk;
 
+/// Which shortening.
+#[derive(Clone, Copy, Debug, PartialEq)]
+pub enum Operation {
+    /// The one that the Dafny text defines: a nested module's name stands twice in its prefix, and in a Fn a
+    /// path type is wrapped once more for each type and expression around it.
+    Upstream,
+    /// Straight shortening: the name stands once, and a path type is wrapped once everywhere.
+    Straight,
+}
+
+impl Operation {
+    pub const BOTH: [Operation; 2] = [Operation::Upstream, Operation::Straight];
+
+    /// With what its lines of the vectors begin.
+    pub fn word(self) -> &'static str {
+        match self {
+            Operation::Upstream => "old",
+            Operation::Straight => "straight",
+        }
+    }
+}
+
 /// A refusal's number and place.
 pub type Refusal = (u32, u32);
 
@@ -40,6 +62,8 @@ pub const MOST_ROOT: usize = 256;
 pub const MOST_PAIRS: usize = 512;
 /// No output is longer than so many times its card.
 pub const MOST_TIMES: usize = 42;
+/// The same of straight shortening.
+pub const MOST_TIMES_STRAIGHT: usize = 4;
 /// No list has more entries: a path that is shortened takes 24 bytes of the card or more and has two at
 /// most, its own and a use's.
 pub const MOST_ENTRIES: usize = MOST_CARD / 24 * 2;

@@ -7,17 +7,23 @@ use std::hint::black_box;
 use std::process::ExitCode;
 use std::time::{Duration, Instant};
 use yardstick::random::Cards;
-use yardstick::text;
-use yardstick::{classes, own, tree, Answer, MOST_CARD, MOST_TIMES, WORDS};
+use yardstick::text::{self, Vector};
+use yardstick::{classes, own, tree, Answer, Operation, MOST_CARD, MOST_TIMES, WORDS};
 
 const USAGE: &str = "\
-shortening [--vectors FILE] [--places FILE] [--cards N] [--seed S]
+shortening [--vectors FILE] [--places FILE] [--straight FILE] [--cards N] [--seed S]
                                          every answer, then the time
 shortening vectors FILE                  only the answers to vectors
 shortening places FILE                   only those to vectors with lists of places
+shortening straight FILE                 only those to vectors of straight shortening
 shortening random [N [SEED]]             only those to random cards
-shortening only WAY CLASS TIMES [FILE]   for a profiler: console, tree or walk over a class, with a list
-                                         if +list stands behind its name";
+shortening only WAY CLASS TIMES [FILE]   for a profiler: console, tree or walk over a class, straight shortening
+                                         if +straight stands behind its name, with a list if +list does";
+
+/// What the vectors of each file are called.
+const VECTORS: &str = "vectors";
+const PLACES: &str = "places";
+const STRAIGHT: &str = "straight vectors";
 
 const CARDS: usize = 20_000;
 const SEED: u64 = 1;
@@ -26,22 +32,24 @@ const ROUNDS: usize = 101;
 /// machine gives to other programs.
 const TURN: Duration = Duration::from_micros(300);
 
-/// Random cards, some lent a little more than their output takes, some much more, some too little.
+/// Random cards by each operation, some lent a little more than their output takes, some much more, some too little.
 fn random(count: usize, seed: u64) -> impl Iterator<Item = Case> {
     let mut room = vec![0; MOST_CARD * MOST_TIMES];
-    Cards::new(seed).take(count).enumerate().map(move |(i, c)| {
-        let length = tree::shorten(&c.card, &c.root, &mut room, c.words).unwrap_or(60);
-        let out = match i % 20 {
-            0 | 1 => length.saturating_sub(1),
-            2 => length / 2,
-            3 => 0,
-            4..=8 => length,
-            9..=11 => (length * 2).min(MOST_CARD * MOST_TIMES),
-            12 => c.card.len().min(MOST_CARD) * MOST_TIMES,
-            13 | 14 => length.max(65536),
-            more => length + more,
-        };
-        Case::new(c.root, c.card, out, c.words)
+    Cards::new(seed).take(count).enumerate().flat_map(move |(i, c)| {
+        Operation::BOTH.map(|operation| {
+            let length = tree::shorten(operation, &c.card, &c.root, &mut room, c.words).unwrap_or(60);
+            let out = match i % 20 {
+                0 | 1 => length.saturating_sub(1),
+                2 => length / 2,
+                3 => 0,
+                4..=8 => length,
+                9..=11 => (length * 2).min(MOST_CARD * MOST_TIMES),
+                12 => c.card.len().min(MOST_CARD) * MOST_TIMES,
+                13 | 14 => length.max(65536),
+                more => length + more,
+            };
+            Case::new(c.root.clone(), c.card.clone(), out, c.words).by(operation)
+        })
     })
 }
 
@@ -66,17 +74,23 @@ fn of_classes() -> Vec<Class> {
     list
 }
 
-/// A way, without a list or with one that is long enough.
+/// A way by an operation, without a list or with one that is long enough.
 #[derive(Clone, Copy)]
 struct Racer {
     way: &'static Way,
+    operation: Operation,
     listed: bool,
 }
 
-/// Each way without a list, then the first two with one.
+/// Each way by the old operation without a list, then the first two with one, then these by straight shortening.
 fn racers() -> Vec<Racer> {
-    let without = WAYS.iter().map(|way| Racer { way, listed: false });
-    without.chain(WAYS[..2].iter().map(|way| Racer { way, listed: true })).collect()
+    let all = |ways: &'static [Way], operation, listed| {
+        ways.iter().map(move |way| Racer { way, operation, listed })
+    };
+    all(WAYS, Operation::Upstream, false)
+        .chain(all(&WAYS[..2], Operation::Upstream, true))
+        .chain(all(&WAYS[..2], Operation::Straight, false))
+        .collect()
 }
 
 impl Class {
@@ -85,10 +99,11 @@ impl Class {
         let lent = self.cases.iter().map(|case| case.out).max().unwrap_or(0);
         out[..lent].fill(0);
         list.fill(0);
-        let way = racer.way;
-        match racer.listed {
-            false => self.time(passes, |case| case.call(way, black_box(out))),
-            true => self.time(passes, |case| case.list_call(way, black_box(out), black_box(list), &mut 0)),
+        let Racer { way, operation, listed } = racer;
+        match listed {
+            false => self.time(passes, |case| case.call(way, operation, black_box(out))),
+            true => self
+                .time(passes, |case| case.list_call(way, operation, black_box(out), black_box(list), &mut 0)),
         }
     }
 
@@ -128,36 +143,43 @@ impl Class {
 
 fn report(classes: &[Class], out: &mut [u8], list: &mut [u32]) {
     println!("medians of {ROUNDS} rounds: microseconds of a card, then the times one takes of another's;");
-    println!("with list: {}/{}, both with a list of places", WAYS[0].what, WAYS[1].what);
+    let first = format!("{}/{}", WAYS[0].what, WAYS[1].what);
+    println!(
+        "with list: {first}, both with a list of places; straight: {first}, both by straight shortening"
+    );
     print!("{:10}  {:>8}  {:>9}", "class", "bytes in", "bytes out");
     WAYS.iter().for_each(|way| print!("  {:>9}", way.what));
     let ratios = || (0..WAYS.len()).flat_map(|i| (i + 1..WAYS.len()).map(move |j| (i, j)));
     ratios().for_each(|(i, j)| print!("  {:>12}", format!("{}/{}", WAYS[i].what, WAYS[j].what)));
-    println!("  {:>9}", "with list");
+    println!("  {:>9}  {:>8}", "with list", "straight");
     let racers = racers();
     for class in classes {
         let cards = class.cases.len();
         let bytes: usize = class.cases.iter().map(|c| c.card.len()).sum();
-        let output: usize = class.cases.iter().map(|c| c.call(&WAYS[0], out).unwrap_or(0)).sum();
+        let length = |c: &Case| c.call(&WAYS[0], Operation::Upstream, out).unwrap_or(0);
+        let output: usize = class.cases.iter().map(length).sum();
         let times = class.measure(&racers, out, list);
-        let (without, with) = times.split_at(WAYS.len());
+        let (without, rest) = times.split_at(WAYS.len());
+        let (with, straight) = rest.split_at(2);
         print!("{:10}  {:8}  {:9}", class.what, bytes / cards, output / cards);
         without.iter().for_each(|time| print!("  {time:9.2}"));
         ratios().for_each(|(i, j)| print!("  {:12.2}", without[i] / without[j]));
-        println!("  {:9.2}", with[0] / with[1]);
+        println!("  {:9.2}  {:8.2}", with[0] / with[1], straight[0] / straight[1]);
     }
 }
 
+type Read = fn(&str) -> Result<Vec<Vector>, String>;
+
 /// The vectors of a file, none where there is no file.
-fn of_file(file: Option<&str>) -> Result<Vec<Case>, String> {
-    let vectors = file.map_or(Ok(Vec::new()), text::vectors)?;
+fn of_file(read: Read, file: Option<&str>) -> Result<Vec<Case>, String> {
+    let vectors = file.map_or(Ok(Vec::new()), read)?;
     Ok(vectors.into_iter().map(Case::of_vector).collect())
 }
 
-/// Those with lists of places.
-fn of_places(file: Option<&str>) -> Result<Vec<Case>, String> {
-    let vectors = file.map_or(Ok(Vec::new()), text::places)?;
-    Ok(vectors.into_iter().map(Case::of_vector).collect())
+/// Only the answers to the vectors of a file.
+fn agree_on(what: &str, read: Read, file: &str) -> Result<bool, String> {
+    let cases = of_file(read, Some(file))?;
+    Ok(agree(what, &cases, &mut Buffers::new(&cases)))
 }
 
 /// The vectors as a class. The console's call can't be given fewer work words than it brings.
@@ -166,21 +188,26 @@ fn as_class(vectors: Vec<Case>) -> Option<Class> {
     (!cases.is_empty()).then(|| Class { what: "vectors".to_string(), cases })
 }
 
+#[derive(Default)]
 struct Files<'f> {
     vectors: Option<&'f str>,
     places: Option<&'f str>,
+    straight: Option<&'f str>,
 }
 
 fn run(files: Files, cards: usize, seed: u64) -> Result<bool, String> {
-    let (vectors, places) = (of_file(files.vectors)?, of_places(files.places)?);
+    let vectors = of_file(text::vectors, files.vectors)?;
+    let places = of_file(text::places, files.places)?;
+    let straight = of_file(text::straight, files.straight)?;
     let mut classes = of_classes();
-    let mut buffers = Buffers::new(vectors.iter().chain(&places));
-    let own = own::cases().into_iter().map(|c| {
+    let mut buffers = Buffers::new(vectors.iter().chain(&places).chain(&straight));
+    let own = own::cases().into_iter().chain(own::differing()).map(|c| {
         let out = c.card.len() * MOST_TIMES;
         Case::new(c.root, c.card, out, c.words)
     });
-    let mut same = vectors.is_empty() || agree("vectors", &vectors, &mut buffers);
-    same &= places.is_empty() || agree("places", &places, &mut buffers);
+    let mut same = vectors.is_empty() || agree(VECTORS, &vectors, &mut buffers);
+    same &= places.is_empty() || agree(PLACES, &places, &mut buffers);
+    same &= straight.is_empty() || agree(STRAIGHT, &straight, &mut buffers);
     same &= agree("own cards", own, &mut buffers);
     same &= agree("classes", classes.iter().flat_map(|class| &class.cases), &mut buffers);
     same &= agree("random cards", random(cards, seed), &mut buffers);
@@ -193,15 +220,28 @@ fn run(files: Files, cards: usize, seed: u64) -> Result<bool, String> {
     Ok(true)
 }
 
+/// A way by its name, with +straight and +list behind it or without them.
+fn racer(name: &str) -> Result<Racer, String> {
+    let mut words = name.split('+');
+    let way = words.next().and_then(|name| WAYS.iter().find(|way| way.what == name)).ok_or("no such way")?;
+    let mut racer = Racer { way, operation: Operation::Upstream, listed: false };
+    for word in words {
+        match word {
+            "straight" => racer.operation = Operation::Straight,
+            "list" => racer.listed = true,
+            _ => return Err(format!("no such way: +{word} is neither +straight nor +list")),
+        }
+    }
+    Ok(racer)
+}
+
 fn only(way: &str, class: &str, times: &str, file: Option<&str>) -> Result<bool, String> {
-    let vectors = of_file(file)?;
+    let vectors = of_file(text::vectors, file)?;
     let mut buffers = Buffers::new(&vectors);
     let mut classes = of_classes();
     classes.extend(as_class(vectors));
-    let (way, listed) = way.strip_suffix("+list").map_or((way, false), |way| (way, true));
-    let way = WAYS.iter().find(|w| w.what == way).ok_or("no such way")?;
     let class = classes.iter().find(|c| c.what == class).ok_or("no such class")?;
-    class.turn(Racer { way, listed }, number(times)?, &mut buffers.out, &mut buffers.list[..LONG]);
+    class.turn(racer(way)?, number(times)?, &mut buffers.out, &mut buffers.list[..LONG]);
     Ok(true)
 }
 
@@ -212,14 +252,9 @@ fn number<T: std::str::FromStr>(digits: &str) -> Result<T, String> {
 /// Whether nothing differs, or what is wrong with what was asked.
 fn asked(words: &[&str]) -> Result<bool, String> {
     match *words {
-        ["vectors", file] => {
-            let vectors = of_file(Some(file))?;
-            Ok(agree("vectors", &vectors, &mut Buffers::new(&vectors)))
-        }
-        ["places", file] => {
-            let places = of_places(Some(file))?;
-            Ok(agree("places", &places, &mut Buffers::new(&places)))
-        }
+        ["vectors", file] => agree_on(VECTORS, text::vectors, file),
+        ["places", file] => agree_on(PLACES, text::places, file),
+        ["straight", file] => agree_on(STRAIGHT, text::straight, file),
         ["random", ref rest @ ..] if rest.len() <= 2 => {
             let cards = rest.first().map_or(Ok(CARDS), |n| number(n))?;
             let seed = rest.get(1).map_or(Ok(SEED), |n| number(n))?;
@@ -228,12 +263,13 @@ fn asked(words: &[&str]) -> Result<bool, String> {
         ["only", way, class, times] => only(way, class, times, None),
         ["only", way, class, times, file] => only(way, class, times, Some(file)),
         ref options => {
-            let mut files = Files { vectors: None, places: None };
+            let mut files = Files::default();
             let (mut cards, mut seed) = (CARDS, SEED);
             for option in options.chunks(2) {
                 match *option {
                     ["--vectors", name] => files.vectors = Some(name),
                     ["--places", name] => files.places = Some(name),
+                    ["--straight", name] => files.straight = Some(name),
                     ["--cards", n] => cards = number(n)?,
                     ["--seed", n] => seed = number(n)?,
                     _ => return Err(USAGE.to_string()),

@@ -10,7 +10,7 @@ pub struct Case {
 }
 
 /// Each kind of type, a path of its own at each place of it.
-fn every_type() -> Bytes {
+fn every_type() -> Vec<Bytes> {
     let mut all: Vec<Bytes> = (0x20..=0x2B).map(|kind| record(kind, &[])).collect();
     all.push(identifier_type("t2c"));
     all.push(ty("::t::t2d"));
@@ -25,17 +25,17 @@ fn every_type() -> Bytes {
     all.push(record(0x36, &[ty("::t::t36b"), list(&[text("::t::t36c")])]));
     all.push(record(0x37, &[ty("::t::t37display"), ty("::t::t37base")]));
     all.push(record(0x38, &[ty("::t::t38"), kept(&[0]), kept(&path("::t::kept"))]));
-    only_types(&all)
+    all
 }
 
 /// Each kind of expression, a path of its own at each place of it.
-fn every_value() -> Bytes {
+fn every_value() -> Vec<Bytes> {
     let v = |name: &str| ex(&format!("::v::{name}"));
     let t = |name: &str| ty(&format!("::t::{name}"));
     let some = |it: Bytes| list(&[it]);
     let case = |name: &str| record(0x81, &[kept(&path("::v::kept")), v(name)]);
     let assign = |name: &str| record(0x82, &[text("::v::field"), v(name)]);
-    only_values(&[
+    vec![
         record(0x40, &[text("::v::v40")]),
         record(0x41, &[t("v41")]),
         record(0x42, &[text("v42")]),
@@ -72,7 +72,7 @@ fn every_value() -> Bytes {
         record(0x5D, &[v("v5d"), text("::v::f")]),
         record(0x5E, &[list(&[formal("a", t("v5ea")), formal("b", t("v5eb"))]), some(t("v5ec")), v("v5ed")]),
         record(0x5E, &[none(), none(), v("v5ee")]),
-    ])
+    ]
 }
 
 /// Each kind of declaration, a path of its own at each place of it.
@@ -193,8 +193,8 @@ pub fn cases() -> Vec<Case> {
     let mut put = |body: &[Bytes], sort| under(sort, "crate", module("m", body));
 
     let mut sort = "every kind, a path at each place";
-    put(&[every_type()], sort);
-    put(&[every_value()], sort);
+    put(&[only_types(&every_type())], sort);
+    put(&[only_values(&every_value())], sort);
     put(&every_declaration(), sort);
     for declaration in every_declaration() {
         put(&[declaration], sort);
@@ -450,5 +450,81 @@ pub fn cases() -> Vec<Case> {
     refused(ends(path("crate"), &[0]), &sound, 4096);
     refused(path("crate::a::a::a::a::a::a::a::a"), &sound, 4096);
     refused(path("crate"), &sound, 4096);
+    cases
+}
+
+/// Cards to which the two operations answer differently.
+pub fn differing() -> Vec<Case> {
+    let mut cases = Vec::new();
+    let mut under = |sort, root: &str, card| cases.push(Case { sort, root: path(root), card, words: 2048 });
+    let mut put = |body: &[Bytes], sort| under(sort, "crate", module("m", body));
+    let b = |body: &[Bytes]| nested(module("b", body));
+
+    let mut sort = "a nested module's prefix, its name once or twice";
+    put(&[b(&[types(&["crate::m::b::X"])])], sort);
+    put(&[b(&[types(&["crate::m::b::b::X"])])], sort);
+    put(&[b(&[types(&["crate::m::b::X", "crate::m::b::b::X"])])], sort);
+    put(&[b(&[types(&["crate::m::b::b::X", "::a::X", "crate::m::b::X", "::dafny_runtime::X"])])], sort);
+    put(&[b(&[types(&["crate::m::b::b::X", "::c::Y"])])], sort);
+    put(&[b(&[types(&["crate::m::b::X", "::c::Y"])])], sort);
+    put(&[b(&[values(&["crate::m::b::x!", "crate::m::b::b::y!", "crate::m::b::!"])])], sort);
+    put(
+        &[b(&[
+            structure("X", &[], named_fields(&[ty("crate::m::b::X"), ty("crate::m::b::b::X")])),
+            constant("Y", ty("crate::m::b::Y"), ex("crate::m::b::b::Y")),
+        ])],
+        sort,
+    );
+    // The true path of one is what the other's doubled name makes.
+    let each = || types(&["crate::m::b::b::X", "crate::m::b::X", "crate::m::b::b::b::b::X"]);
+    put(&[b(&[each(), b(&[each()])])], sort);
+    put(&[b(&[b(&[each()]), each()]), each()], sort);
+    // Each prefix that three modules, one in the other, may have.
+    let bases =
+        ["crate::m::b::c", "crate::m::b::b::c::c", "crate::m::b::b::c", "crate::m::b::c::c", "crate::m::b"];
+    let paths: Vec<String> = bases.iter().enumerate().map(|(i, base)| format!("{base}::N{i}")).collect();
+    let paths: Vec<&str> = paths.iter().map(String::as_str).collect();
+    let each = || types(&paths);
+    put(&[b(&[nested(module("c", &[each()]))])], sort);
+    put(&[each(), b(&[each(), nested(module("c", &[each()])), each()]), each()], sort);
+    put(&[b(&[types(&["crate::m::c::X"])]), nested(module("c", &[types(&["crate::m::c::X"])]))], sort);
+    put(&[nested(module("m", &[types(&["crate::m::X", "crate::m::m::X", "crate::m::m::m::X"])]))], sort);
+    put(&[nested(module("", &[types(&["crate::m::::X", "crate::m::::::X"])]))], sort);
+    // A path is the own name's pair under one prefix, and one pair too many under the other.
+    for base in ["crate::m::b", "crate::m::b::b"] {
+        let mut body = extern_modules(512);
+        body.push(types(&[&format!("{base}::aa")]));
+        put(&[b(&body)], sort);
+    }
+
+    sort = "a path type in a Fn, with types and expressions around it";
+    let top = |formals: &[Bytes], result: &[Bytes], body: &[Bytes]| {
+        top_fn(function("f", &[param("T", list(&[borrowed(2)]))], formals, list(result), list(body)))
+    };
+    let block = |times, of| (0..times).fold(of, |e, _| record(0x45, &[e]));
+    let of_type = |of| record(0x41, &[of]);
+    for times in [1, 2, 5, 36] {
+        put(&[top(&[formal("x", borrowed(times)), formal("y", borrowed(0))], &[], &[])], sort);
+        put(&[top(&[], &[borrowed(times)], &[])], sort);
+        put(&[top(&[], &[], &[block(times - 1, of_type(ty("::a::X")))])], sort);
+        put(&[top(&[], &[], &[block(times / 2, of_type(borrowed(times / 2)))])], sort);
+    }
+    put(&[top(&[], &[record(0x33, &[list(&every_type())])], &[])], sort);
+    put(&[top(&[formal("x", record(0x33, &[list(&every_type())]))], &[], &[])], sort);
+    put(&[top(&[], &[], &[record(0x47, &[list(&every_value())])])], sort);
+    let own = |display, base| record(0x37, &[display, base]);
+    put(&[top(&[], &[own(ty("::a::X"), ty("::a::X"))], &[])], sort);
+    put(&[top(&[], &[own(identifier_type("X"), own(identifier_type("X"), ty("::a::X")))], &[])], sort);
+    let member = || fn_member(function("f", &[], &[formal("x", borrowed(1))], none(), none()));
+    put(&[implementation(&[], borrowed(1), &[member()])], sort);
+    put(&[impl_for(&[], borrowed(1), borrowed(2), &[member()])], sort);
+    put(&[trait_(&[], identifier_type("T"), list(&[borrowed(1)]), &[member()])], sort);
+    put(&[b(&[top(&[], &[record(0x2F, &[ty("crate::m::b::X")])], &[])])], sort);
+
+    sort = "a nested module's prefix under other roots";
+    for root in ["", "Self", "crate::a", "::dafny_runtime", "crate::a::a::a::a::a::a"] {
+        let once = types(&[&format!("{root}::m::b::X"), &format!("{root}::m::b::b::Y")]);
+        under(sort, root, module("m", &[b(&[once])]));
+    }
     cases
 }

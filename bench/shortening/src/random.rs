@@ -58,7 +58,7 @@ const NAMES: [&str; 20] = [
     "\u{e9}\u{2026}",
 ];
 
-const BASES: [&str; 20] = [
+const BASES: [&str; 21] = [
     "",
     "crate",
     "Self",
@@ -71,6 +71,7 @@ const BASES: [&str; 20] = [
     "crate::dafny_runtime",
     "crate::m",
     "crate::m::m",
+    "crate::m::b",
     "crate::m::b::b",
     "crate::X",
     "Self::a",
@@ -100,8 +101,8 @@ pub struct Cards {
     /// From these the card draws.
     names: Vec<Bytes>,
     bases: Vec<Bytes>,
-    /// Of the modules around, the outermost first.
-    prefixes: Vec<Bytes>,
+    /// Of the modules around, the outermost first; of each the one of either operation.
+    prefixes: Vec<[Bytes; 2]>,
     /// How many more records one declaration may have, and how many more declarations the card.
     room: usize,
     declarations: usize,
@@ -135,12 +136,13 @@ impl Cards {
     }
 
     fn path(&mut self) -> Bytes {
-        let prefix = self.prefixes.last().unwrap_or(&self.root);
+        let operation = self.draws.below(2);
+        let prefix = self.prefixes.last().map_or(&self.root, |prefixes| &prefixes[operation]);
         let mut base = match self.draws.below(12) {
             0..=2 => prefix.clone(),
             // The prefix without its last name.
             3 => prefix[6..end(prefix, 6)].to_vec(),
-            4 => self.draws.of(&self.prefixes),
+            4 => self.draws.of(&self.prefixes)[operation].clone(),
             5 if self.draws.once(2) => return path(self.draws.of(&["", "crate", "Self"])),
             _ => self.draws.of(&self.bases),
         };
@@ -230,14 +232,14 @@ impl Cards {
 
     fn module(&mut self, depth: u32) -> Bytes {
         let name = self.name();
-        let prefix = match self.prefixes.last() {
-            Some(parent) => select(select(parent.clone(), &name), &name),
-            None => select(self.root.clone(), &name),
+        let prefixes = match self.prefixes.last() {
+            Some([twice, once]) => [select(select(twice.clone(), &name), &name), select(once.clone(), &name)],
+            None => [(); 2].map(|_| select(self.root.clone(), &name)),
         };
         if self.draws.once(if self.prefixes.is_empty() { 40 } else { 4 }) {
             return extern_module(name);
         }
-        self.prefixes.push(prefix);
+        self.prefixes.push(prefixes);
         let mut body = Vec::new();
         if self.full > 0 && self.draws.once(2) {
             self.full -= 1;

@@ -1,6 +1,6 @@
 //! Cases whose answers are stated, by the Dafny text or by document 01, and not worked out.
 use crate::cards::*;
-use crate::{Answer, MOST_CARD, WORDS};
+use crate::{Answer, Operation, MOST_CARD, WORDS};
 
 pub struct Stated {
     pub what: &'static str,
@@ -41,7 +41,7 @@ pub fn constants(types: &[Bytes]) -> Vec<Bytes> {
     types.iter().enumerate().map(constant).collect()
 }
 
-/// Document 01, "Run only".
+/// Document 01, "Run only". The operations answer alike.
 pub fn limits() -> Vec<Stated> {
     let long = |size: usize| record(0x61, &[text("a".repeat(size - 12))]);
     let borrowed = |times, of| (0..times).fold(of, |t, _| record(0x2F, &[t]));
@@ -64,14 +64,62 @@ pub fn limits() -> Vec<Stated> {
     ]
 }
 
-/// Document 01, "Plausible wrong ports": a card that each would answer otherwise.
-pub fn wrong_ports() -> Vec<Stated> {
+/// A function with this result, or with this type as its body.
+fn with_result(of: Bytes) -> Bytes {
+    top_fn(function("f", &[], &[], list(&[of]), none()))
+}
+
+fn with_body(of: Bytes) -> Bytes {
+    top_fn(function("f", &[], &[], none(), list(&[record(0x41, &[of])])))
+}
+
+/// ::B with one type or expression around it in a Fn.
+fn in_function(operation: Operation) -> Bytes {
+    match operation {
+        Operation::Upstream => wrapped("B", short("::B")),
+        Operation::Straight => short("::B"),
+    }
+}
+
+/// P11, P12 and P13 of document 01, and P13 with the module's true path: the operations answer differently.
+pub fn told_apart(operation: Operation) -> Vec<Stated> {
+    let borrowed = |of| record(0x2F, &[of]);
+    let inside = || in_function(operation);
+    let in_b = |body: &[Bytes]| m(&[nested(module("b", body))]);
+    let p13 = |what, own: &str, is_prefix: bool| {
+        let mut uses = vec![use_decl("::c::Y")];
+        if !is_prefix {
+            uses.insert(0, use_decl(own));
+        }
+        let card = in_b(&constants(&[ty(own), ty("::c::Y")]));
+        accepted(what, card, in_b(&[uses, constants(&[short(own), short("::c::Y")])].concat()))
+    };
+    let doubled = operation == Operation::Upstream;
+    vec![
+        accepted(
+            "P11",
+            m(&[with_result(borrowed(ty("::B")))]),
+            m(&[use_decl("::B"), with_result(borrowed(inside()))]),
+        ),
+        accepted("P12", m(&[with_body(ty("::B"))]), m(&[use_decl("::B"), with_body(inside())])),
+        p13("P13", "crate::m::b::b::X", doubled),
+        p13("P13 with the true path", "crate::m::b::X", !doubled),
+    ]
+}
+
+/// Document 01, "Plausible wrong ports": a card that each would answer otherwise. In straight shortening not one
+/// that wraps once in a Fn is wrong, but one that wraps as upstream does.
+pub fn wrong_ports(operation: Operation) -> Vec<Stated> {
     let with = |uses: &[&str], rest: &[Bytes]| {
         let uses: Vec<Bytes> = uses.iter().map(|path| use_decl(path)).collect();
         m(&[&uses, rest].concat())
     };
     let field = |rest: &[Bytes]| [&[structure("S", &[], named_fields(&[ty("::a::X")]))], rest].concat();
-    let function = |of| [top_fn(function("f", &[], &[], list(&[record(0x2F, &[of])]), none()))];
+    let function = |of| [with_result(record(0x2F, &[of]))];
+    let wrapping = match operation {
+        Operation::Upstream => "wrapped once in a Fn",
+        Operation::Straight => "wrapped twice in a Fn",
+    };
     vec![
         accepted(
             "uses sorted by name",
@@ -84,9 +132,9 @@ pub fn wrong_ports() -> Vec<Stated> {
             with(&["::b::X"], &field(&constants(&[short("::b::X")]))),
         ),
         accepted(
-            "wrapped once in a Fn",
+            wrapping,
             with(&[], &function(ty("::B"))),
-            with(&["::B"], &function(wrapped("B", short("::B")))),
+            with(&["::B"], &function(in_function(operation))),
         ),
         accepted(
             "dafny_runtime ahead of the prefix",

@@ -1,16 +1,17 @@
-//! What document 01 states of cards, the cases of TestApply, and random cards, for the two in Rust, all with
-//! lists of places too.
+//! What the documents state of cards, the cases of TestApply, and random cards, for the two in Rust, by both
+//! operations and all with lists of places too.
 use crate::cards::*;
 use crate::random::Cards;
 use crate::stated::{self, constants, short, wrapped};
-use crate::{tree, walk, Answer, Listed, MOST_TIMES, WORDS};
+use crate::Operation::{Straight, Upstream};
+use crate::{own, tree, walk, Answer, Listed, Operation, MOST_TIMES, MOST_TIMES_STRAIGHT, WORDS};
 use std::collections::BTreeSet;
 
 /// The answer of both, and the output. With a list they give the same, and the places of the changed points.
-fn shorten(card: &[u8], root: &[u8], lent: usize, words: usize) -> (Answer, Vec<u8>) {
+fn shorten(operation: Operation, card: &[u8], root: &[u8], lent: usize, words: usize) -> (Answer, Vec<u8>) {
     let [first, second] = [tree::shorten, walk::shorten].map(|shorten| {
         let mut out = vec![0xA5; lent];
-        let answer = shorten(card, root, &mut out, words);
+        let answer = shorten(operation, card, root, &mut out, words);
         let rest = out.split_off(answer.unwrap_or(0));
         assert!(rest.iter().all(|&b| b == 0xA5), "{answer:?} and other bytes behind");
         (answer, out)
@@ -23,7 +24,7 @@ fn shorten(card: &[u8], root: &[u8], lent: usize, words: usize) -> (Answer, Vec<
     for lent in [most, most + 3, 0, most.saturating_sub(1), most.saturating_sub(2)] {
         let short = answer.is_ok() && lent < most;
         let due = if short { Err((10, 0)) } else { answer.map(|length| (length, most / 2)) };
-        let (answer, now, list) = with_list(card, root, bytes, words, lent);
+        let (answer, now, list) = with_list(operation, card, root, bytes, words, lent);
         assert_eq!(answer, due);
         assert!(short || now == *output && list == places);
     }
@@ -32,6 +33,7 @@ fn shorten(card: &[u8], root: &[u8], lent: usize, words: usize) -> (Answer, Vec<
 
 /// The answer of both with a list of so many words, the output and the list's entries.
 fn with_list(
+    operation: Operation,
     card: &[u8],
     root: &[u8],
     lent: usize,
@@ -40,7 +42,7 @@ fn with_list(
 ) -> (Listed, Vec<u8>, Vec<u32>) {
     let [first, second] = [tree::shorten_places, walk::shorten_places].map(|shorten| {
         let (mut out, mut list) = (vec![0xA5; lent], vec![0xA5A5_A5A5; list_lent]);
-        let answer = shorten(card, root, &mut out, words, &mut list);
+        let answer = shorten(operation, card, root, &mut out, words, &mut list);
         let (length, entries) = answer.unwrap_or((0, 0));
         let (rest, words) = (out.split_off(length), list.split_off(2 * entries));
         assert!(rest == vec![0xA5; rest.len()], "{answer:?} and other bytes behind");
@@ -109,14 +111,14 @@ fn inside((bytes, at): At) -> Vec<At> {
     all
 }
 
-fn output(card: &[u8]) -> Vec<u8> {
-    let (answer, output) = shorten(card, &path("crate"), card.len() * MOST_TIMES, WORDS);
+fn output(operation: Operation, card: &[u8]) -> Vec<u8> {
+    let (answer, output) = shorten(operation, card, &path("crate"), card.len() * MOST_TIMES, WORDS);
     assert_eq!(answer, Ok(output.len()));
     output
 }
 
-fn answer(card: &[u8], lent: usize, words: usize) -> Answer {
-    shorten(card, &path("crate"), lent, words).0
+fn answer(operation: Operation, card: &[u8], lent: usize, words: usize) -> Answer {
+    shorten(operation, card, &path("crate"), lent, words).0
 }
 
 fn m(body: &[Bytes]) -> Bytes {
@@ -125,6 +127,12 @@ fn m(body: &[Bytes]) -> Bytes {
 
 #[test]
 fn proved_cards() {
+    Operation::BOTH.into_iter().for_each(proved_cards_by);
+}
+
+fn proved_cards_by(operation: Operation) {
+    let output = |card: &[u8]| output(operation, card);
+    let answer = |card: &[u8], lent| answer(operation, card, lent, WORDS);
     // P1 to P4.
     let least = extern_module("a");
     assert_eq!((output(&least), least.len()), (least.clone(), 13));
@@ -133,7 +141,7 @@ fn proved_cards() {
     let p3_out = m(&[use_decl("::B"), implementation(&[], short("::B"), &[])]);
     assert_eq!((p3.len(), p3_out.len()), (80, 137));
     assert_eq!(output(&p3), p3_out);
-    assert_eq!(answer(&p3, 136, WORDS), Err((9, 0)));
+    assert_eq!(answer(&p3, 136), Err((9, 0)));
     // P5 to P7.
     let p5 = m(&constants(&[ty("::a::X"), ty("::b::X")]));
     assert_eq!(output(&p5), p5);
@@ -153,36 +161,54 @@ fn proved_cards() {
     assert_eq!(output(&p9), p9);
     let p10 = m(&[structure("S", &[], named_fields(&[ty("::a::X")]))]);
     assert_eq!(output(&p10), p10);
-    // P11 and P12.
-    let twice = || wrapped("B", short("::B"));
+    // P11 and P12: wrapped twice, or once in straight shortening.
+    let wrapped = || match operation {
+        Upstream => wrapped("B", short("::B")),
+        Straight => short("::B"),
+    };
     let p11 = |of| top_fn(function("f", &[], &[], list(&[record(0x2F, &[of])]), none()));
-    assert_eq!(output(&m(&[p11(ty("::B"))])), m(&[use_decl("::B"), p11(twice())]));
+    assert_eq!(output(&m(&[p11(ty("::B"))])), m(&[use_decl("::B"), p11(wrapped())]));
     let p12 = |of| top_fn(function("f", &[], &[], none(), list(&[record(0x41, &[of])])));
-    assert_eq!(output(&m(&[p12(ty("::B"))])), m(&[use_decl("::B"), p12(twice())]));
-    // P13.
-    let p13 = m(&[nested(module("b", &constants(&[ty("crate::m::b::b::X"), ty("::c::Y")])))]);
-    let inside = constants(&[short("crate::m::b::b::X"), short("::c::Y")]);
-    let p13_out = m(&[nested(module("b", &[&[use_decl("::c::Y")], &inside[..]].concat()))]);
-    assert_eq!(output(&p13), p13_out);
+    assert_eq!(output(&m(&[p12(ty("::B"))])), m(&[use_decl("::B"), p12(wrapped())]));
+    // P13, and P13 with the true path.
+    let in_b = |body: &[Bytes]| m(&[nested(module("b", body))]);
+    let p13 = |own: &str, uses: &[&str]| {
+        let card = in_b(&constants(&[ty(own), ty("::c::Y")]));
+        let uses: Vec<Bytes> = uses.iter().map(|path| use_decl(path)).collect();
+        assert_eq!(output(&card), in_b(&[uses, constants(&[short(own), short("::c::Y")])].concat()));
+    };
+    match operation {
+        Upstream => {
+            p13("crate::m::b::b::X", &["::c::Y"]);
+            p13("crate::m::b::X", &["crate::m::b::X", "::c::Y"]);
+        }
+        Straight => {
+            p13("crate::m::b::b::X", &["crate::m::b::b::X", "::c::Y"]);
+            p13("crate::m::b::X", &["::c::Y"]);
+        }
+    }
     // P14 and P15.
-    assert_eq!(answer(&[2, 0, 0, 0, 0x60, 0], 100, WORDS), Err((4, 6)));
-    assert_eq!(answer(&[&least[..], &[0]].concat(), 100, WORDS), Err((7, 13)));
-    assert_eq!(answer(&[], 100, WORDS), Err((4, 0)));
+    assert_eq!(answer(&[2, 0, 0, 0, 0x60, 0], 100), Err((4, 6)));
+    assert_eq!(answer(&[&least[..], &[0]].concat(), 100), Err((7, 13)));
+    assert_eq!(answer(&[], 100), Err((4, 0)));
 }
 
-/// Limits and wrong ports.
+/// Limits, wrong ports, and what tells the operations apart.
 #[test]
 fn stated_cards() {
-    for case in stated::limits().into_iter().chain(stated::wrong_ports()) {
-        let due = (case.answer, case.output);
-        assert_eq!(shorten(&case.card, &path("crate"), case.out, case.words), due, "{}", case.what);
+    for operation in Operation::BOTH {
+        let cases = [stated::limits(), stated::wrong_ports(operation), stated::told_apart(operation)];
+        for case in cases.into_iter().flatten() {
+            let given = shorten(operation, &case.card, &path("crate"), case.out, case.words);
+            assert_eq!(given, (case.answer, case.output), "{}", case.what);
+        }
     }
 }
 
 /// The list of a card under the root crate, in bytes lent as many as the output has.
-fn list_of(card: &[u8]) -> Vec<u32> {
-    let output = output(card);
-    let (answer, _, list) = with_list(card, &path("crate"), output.len(), WORDS, 100);
+fn list_of(operation: Operation, card: &[u8]) -> Vec<u32> {
+    let output = output(operation, card);
+    let (answer, _, list) = with_list(operation, card, &path("crate"), output.len(), WORDS, 100);
     assert_eq!(answer, Ok((output.len(), list.len() / 2)));
     list
 }
@@ -195,6 +221,12 @@ fn find(bytes: &[u8], of: &[u8]) -> u32 {
 /// Offsets and marks, spelled out.
 #[test]
 fn lists() {
+    Operation::BOTH.into_iter().for_each(lists_by);
+}
+
+fn lists_by(operation: Operation) {
+    let list_of = |card: &[u8]| list_of(operation, card);
+    let output = |card: &[u8]| output(operation, card);
     // P1, P2 and P3: nothing, and a use and a type.
     assert_eq!(list_of(&extern_module("a")), []);
     assert_eq!(list_of(&m(&[])), []);
@@ -211,10 +243,13 @@ fn lists() {
     let p8 = m(&[use_decl("::a::rd"), constant("k1", bool_type(), ex("::a::rd!"))]);
     let value = record(0x42, &[text("rd!")]);
     assert_eq!(list_of(&p8), [31, 3, find(&output(&p8), &value), 2]);
-    // Wrapped twice: the outer one.
-    let twice = wrapped("B", short("::B"));
+    // Wrapped twice: the outer one. Wrapped once, as it is in straight shortening: that one.
+    let outermost = match operation {
+        Upstream => wrapped("B", short("::B")),
+        Straight => short("::B"),
+    };
     let p11 = m(&[top_fn(function("f", &[], &[], list(&[record(0x2F, &[ty("::B")])]), none()))]);
-    assert_eq!(list_of(&p11), [31, 3, find(&output(&p11), &twice), 1]);
+    assert_eq!(list_of(&p11), [31, 3, find(&output(&p11), &outermost), 1]);
     // A type in the card's own synonyms, whose display is the same.
     let own = m(&constants(&[ty("::B"), wrapped("B", wrapped("B", ty("::B")))]));
     let in_own = wrapped("B", wrapped("B", short("::B")));
@@ -222,24 +257,29 @@ fn lists() {
     // Behind the outer two: a head and an Identifier each.
     let second = find(&output(&own), &in_own) + 2 * (6 + 6 + 7);
     assert_eq!(list_of(&own), [31, 3, first, 1, second, 1]);
-    // A use inside P13's nested module.
+    // A use inside P13's nested module; in straight shortening two.
     let p13 = m(&[nested(module("b", &constants(&[ty("crate::m::b::b::X"), ty("::c::Y")])))]);
-    let [put, x, y] = [use_decl("::c::Y"), short("crate::m::b::b::X"), short("::c::Y")];
-    assert_eq!(
-        list_of(&p13),
-        [(put, 3), (x, 1), (y, 1)].map(|(of, mark)| [find(&output(&p13), &of), mark]).as_flattened()
-    );
+    let uses: &[&str] = match operation {
+        Upstream => &["::c::Y"],
+        Straight => &["crate::m::b::b::X", "::c::Y"],
+    };
+    let short_types = ["crate::m::b::b::X", "::c::Y"].map(|of| (short(of), 1));
+    let points = uses.iter().map(|of| (use_decl(of), 3)).chain(short_types);
+    let due: Vec<u32> = points.flat_map(|(of, mark)| [find(&output(&p13), &of), mark]).collect();
+    assert_eq!(list_of(&p13), due);
 }
 
 /// 10 comes after 9, and two words are due for each entry.
 #[test]
 fn short_lists() {
     let p3 = m(&[implementation(&[], ty("::B"), &[])]);
-    let answer = |bytes, words| with_list(&p3, &path("crate"), bytes, WORDS, words).0;
-    assert_eq!(answer(136, 0), Err((9, 0)));
-    assert_eq!(answer(136, 4), Err((9, 0)));
-    assert_eq!([0, 1, 2, 3].map(|words| answer(137, words)), [Err((10, 0)); 4]);
-    assert_eq!([4, 5, 100].map(|words| answer(137, words)), [Ok((137, 2)); 3]);
+    for operation in Operation::BOTH {
+        let answer = |bytes, words| with_list(operation, &p3, &path("crate"), bytes, WORDS, words).0;
+        assert_eq!(answer(136, 0), Err((9, 0)));
+        assert_eq!(answer(136, 4), Err((9, 0)));
+        assert_eq!([0, 1, 2, 3].map(|words| answer(137, words)), [Err((10, 0)); 4]);
+        assert_eq!([4, 5, 100].map(|words| answer(137, words)), [Ok((137, 2)); 3]);
+    }
 }
 
 /// A full table comes before too little room, an outer one before an inner.
@@ -247,10 +287,13 @@ fn short_lists() {
 fn full_tables() {
     let pairs =
         |count: usize| m(&(0..count).map(|i| nested(extern_module(i.to_string()))).collect::<Vec<_>>());
-    assert_eq!(answer(&pairs(512), 0, WORDS), Err((9, 0)));
-    assert_eq!(answer(&pairs(513), 0, WORDS), Err((8, 0)));
-    // Mod, Text, Kept, Text, List, ModDecl.
-    assert_eq!(answer(&m(&[nested(pairs(513))]), 0, WORDS), Err((8, 6 + 6 + 6 + 7 + 6 + 6)));
+    for operation in Operation::BOTH {
+        let answer = |card: &[u8]| answer(operation, card, 0, WORDS);
+        assert_eq!(answer(&pairs(512)), Err((9, 0)));
+        assert_eq!(answer(&pairs(513)), Err((8, 0)));
+        // Mod, Text, Kept, Text, List, ModDecl.
+        assert_eq!(answer(&m(&[nested(pairs(513))])), Err((8, 6 + 6 + 6 + 7 + 6 + 6)));
+    }
 }
 
 /// The cards that are measured are accepted with what is lent, and have the pairs they should.
@@ -260,7 +303,7 @@ fn classes() {
     let cards = [least(), small(), one_name(512), nested_modules(200), crowded(), deep_types(50)];
     let sized = [1, 4, 16, 32].map(|k| typical(k << 10));
     for card in cards.iter().chain(&sized).chain(&[8, 32, 128, 512].map(pairs)) {
-        assert!(answer(card, 65536, WORDS).is_ok());
+        assert!(Operation::BOTH.into_iter().all(|operation| answer(operation, card, 65536, WORDS).is_ok()));
     }
     let root = path("crate");
     let count = |card: &[u8]| tree::outermost(card, &root, WORDS).map(|mapping| mapping.pairs.len());
@@ -289,24 +332,67 @@ fn displayed(bytes: &[u8]) -> Bytes {
     out
 }
 
+/// Its cases have neither nested modules nor a Fn.
 #[test]
 fn test_apply() {
     for (card, due) in stated::test_apply() {
-        assert_eq!(displayed(&output(&card)), due);
+        assert_eq!(displayed(&output(Upstream, &card)), due);
+        assert_eq!(output(Straight, &card), output(Upstream, &card));
+    }
+}
+
+/// Each of the cards that are to tell the operations apart does.
+#[test]
+fn differing_cards() {
+    for case in own::differing() {
+        let [old, straight] = Operation::BOTH.map(|operation| {
+            shorten(operation, &case.card, &case.root, case.card.len() * MOST_TIMES, case.words)
+        });
+        assert_ne!(old, straight, "{}", case.sort);
     }
 }
 
 #[test]
 fn random_cards() {
-    let (mut numbers, mut kinds) = (BTreeSet::new(), BTreeSet::new());
+    let (mut numbers, mut kinds, mut differ) = (BTreeSet::new(), BTreeSet::new(), 0);
     for case in Cards::new(7).take(3000) {
-        let (answer, output) = shorten(&case.card, &case.root, case.card.len() * MOST_TIMES, case.words);
-        numbers.insert(answer.map_or_else(|(number, _)| number, |_| 0));
-        seen(&output, &mut kinds);
+        let [old, straight] = Operation::BOTH.map(|operation| {
+            shorten(operation, &case.card, &case.root, case.card.len() * MOST_TIMES, case.words)
+        });
+        for (answer, output) in [&old, &straight] {
+            numbers.insert(answer.map_or_else(|(number, _)| number, |_| 0));
+            seen(output, &mut kinds);
+        }
+        differ += (old != straight) as usize;
     }
     assert_eq!(numbers, (0..=8).collect());
     let all = [0x01..=0x03, 0x10..=0x13, 0x20..=0x38, 0x40..=0x5E, 0x60..=0x6A, 0x70..=0x86];
     assert_eq!(kinds, all.into_iter().flatten().collect());
+    assert!(differ > 300, "{differ}");
+}
+
+/// Path types under Global, each with a short name of its own: few bytes for much that is put in.
+fn dense() -> Bytes {
+    let name = |i: usize| if i < 256 { vec![i as u8] } else { vec![i as u8, 0] };
+    let types: Vec<Bytes> = (0..512).map(|i| record(0x2D, &[select(path(""), name(i))])).collect();
+    module("", &[only_types(&types)])
+}
+
+/// No output of straight shortening is longer than 4 times its card, and some are longer than 3 times.
+#[test]
+fn straight_lengths() {
+    let length = |card: &[u8], root: &[u8], words| {
+        let mut out = vec![0; card.len() * MOST_TIMES];
+        tree::shorten(Straight, card, root, &mut out, words).unwrap_or(0)
+    };
+    let own = own::cases().into_iter().chain(own::differing()).map(|c| (c.card, c.root, c.words));
+    let random = Cards::new(5).take(5000).map(|c| (c.card, c.root, c.words));
+    for (card, root, words) in own.chain(random) {
+        assert!(length(&card, &root, words) <= card.len() * MOST_TIMES_STRAIGHT);
+    }
+    let dense = dense();
+    let most = length(&dense, &path("crate"), WORDS);
+    assert!(dense.len() * 3 < most && most <= dense.len() * MOST_TIMES_STRAIGHT);
 }
 
 /// The kinds in sound bytes.

@@ -1,5 +1,5 @@
 //! Bytes as hexadecimal digits, `-` for none, and the vectors.
-use crate::Answer;
+use crate::{Answer, Operation};
 
 pub fn bytes(digits: &str) -> Option<Vec<u8>> {
     if digits == "-" {
@@ -19,9 +19,12 @@ pub fn digits(bytes: &[u8]) -> String {
     bytes.iter().map(|b| format!("{b:02x}")).collect()
 }
 
-/// A line of the vectors: ROOT CARD OUTLEN WORKLEN = ANSWER; or, with a list of places,
-/// old ROOT CARD OUTLEN WORKLEN PLACES = ANSWER.
+/// A line of the vectors: ROOT CARD OUTLEN WORKLEN = ANSWER; with a list of places,
+/// old ROOT CARD OUTLEN WORKLEN PLACES = ANSWER; or straight ROOT CARD OUTLEN WORKLEN PLACES COUNTS = ANSWER.
+#[derive(Clone)]
 pub struct Vector {
+    /// None where the line names none; upstream is meant then.
+    pub operation: Option<Operation>,
     pub root: Vec<u8>,
     pub card: Vec<u8>,
     /// How many bytes are lent, and how many words.
@@ -37,7 +40,7 @@ pub struct Vector {
 
 type Fields<'l> = std::str::Split<'l, char>;
 
-/// What both forms have.
+/// What all forms have.
 fn without_list(call: &mut Fields, answer: &mut Fields) -> Option<Vector> {
     let root = bytes(call.next()?)?;
     let card = bytes(call.next()?)?;
@@ -49,7 +52,7 @@ fn without_list(call: &mut Fields, answer: &mut Fields) -> Option<Vector> {
         0 => (Ok(value.parse().ok()?), bytes(answer.next()?)?),
         _ => (Err((number, value.parse().ok()?)), Vec::new()),
     };
-    Some(Vector { root, card, out, words, lent: None, answer, output, list: Vec::new() })
+    Some(Vector { operation: None, root, card, out, words, lent: None, answer, output, list: Vec::new() })
 }
 
 fn vector(line: &str) -> Option<Vector> {
@@ -57,10 +60,14 @@ fn vector(line: &str) -> Option<Vector> {
     without_list(&mut call.split(' '), &mut answer.split(' '))
 }
 
+/// A line that begins with its operation.
 fn listed(line: &str) -> Option<Vector> {
-    let (call, answer) = line.strip_prefix("old ")?.split_once(" = ")?;
+    let (word, rest) = line.split_once(' ')?;
+    let operation = Operation::BOTH.into_iter().find(|operation| operation.word() == word)?;
+    let (call, answer) = rest.split_once(" = ")?;
     let (mut call, mut answer) = (call.split(' '), answer.split(' '));
     let mut vector = without_list(&mut call, &mut answer)?;
+    vector.operation = Some(operation);
     vector.lent = match call.next()? {
         "x" => None,
         words => Some(words.parse().ok()?),
@@ -72,7 +79,8 @@ fn listed(line: &str) -> Option<Vector> {
             (Some(_), entries, list) => entries_of(entries.parse().ok()?, list)?,
         };
     }
-    Some(vector)
+    // Nothing else may stand there, nor a list of counts, which is not known here.
+    (format!("{} = {}", vector.question(), vector.answer()) == line).then_some(vector)
 }
 
 /// The words of so many entries, with commas, `-` for none.
@@ -88,7 +96,7 @@ fn of_file(name: &str, of_line: fn(&str) -> Option<Vector>, form: &str) -> Resul
     let text = std::fs::read_to_string(name).map_err(|e| format!("{name} can't be read: {e}"))?;
     text.lines()
         .enumerate()
-        .map(|(i, line)| of_line(line).ok_or_else(|| format!("line {} is no case: {form}", i + 1)))
+        .map(|(i, line)| of_line(line).ok_or_else(|| format!("{name}: line {} is no case: {form}", i + 1)))
         .collect()
 }
 
@@ -97,19 +105,67 @@ pub fn vectors(name: &str) -> Result<Vec<Vector>, String> {
     of_file(name, vector, "ROOT CARD OUTLEN WORKLEN = ANSWER")
 }
 
+const OLD: &str = "old ROOT CARD OUTLEN WORKLEN PLACES = ANSWER";
+
 /// Those with lists of places.
 pub fn places(name: &str) -> Result<Vec<Vector>, String> {
-    of_file(name, listed, "old ROOT CARD OUTLEN WORKLEN PLACES = ANSWER")
+    of_file(name, |line| listed(line).filter(|v| v.operation == Some(Operation::Upstream)), OLD)
+}
+
+/// Those of straight shortening, among which are such with lists of places.
+pub fn straight(name: &str) -> Result<Vec<Vector>, String> {
+    of_file(name, listed, &format!("straight ROOT CARD OUTLEN WORKLEN PLACES x = ANSWER or {OLD}"))
+}
+
+/// A case as a line of the vectors has it, ahead of ` = `.
+pub fn question(
+    operation: Option<Operation>,
+    root: &[u8],
+    card: &[u8],
+    out: usize,
+    words: usize,
+    lent: Option<usize>,
+) -> String {
+    let plain = format!("{} {} {out} {words}", digits(root), digits(card));
+    let Some(operation) = operation else { return plain };
+    let places = lent.map_or("x".to_string(), |words| words.to_string());
+    let counts = if operation == Operation::Straight { " x" } else { "" };
+    format!("{} {plain} {places}{counts}", operation.word())
+}
+
+impl Vector {
+    /// What stands in its line ahead of ` = `.
+    pub fn question(&self) -> String {
+        question(self.operation, &self.root, &self.card, self.out, self.words, self.lent)
+    }
+
+    /// What stands behind.
+    pub fn answer(&self) -> String {
+        let length = match self.answer {
+            Ok(length) => length,
+            Err((number, place)) => return format!("{number} {place}"),
+        };
+        let plain = format!("0 {length} {}", digits(&self.output));
+        let Some(operation) = self.operation else { return plain };
+        let words: Vec<String> = self.list.iter().map(u32::to_string).collect();
+        let list = match (self.lent, &words[..]) {
+            (None, _) => "x x".to_string(),
+            (_, []) => "0 -".to_string(),
+            _ => format!("{} {}", words.len() / 2, words.join(",")),
+        };
+        let counts = if operation == Operation::Straight { " x x" } else { "" };
+        format!("{plain} {list}{counts}")
+    }
 }
 
 #[cfg(test)]
 mod tests {
     use super::*;
 
-    const CALL: &str = "old 020000001100 09000000610003000000010061 13 2048";
+    const CALL: &str = "020000001100 09000000610003000000010061 13 2048";
 
     fn line(rest: &str) -> Option<Vector> {
-        listed(&format!("{CALL} {rest}"))
+        listed(&format!("old {CALL} {rest}"))
     }
 
     #[test]
@@ -127,6 +183,30 @@ mod tests {
     }
 
     #[test]
+    fn straight_lines() {
+        let line = |rest: &str| listed(&format!("straight {CALL} {rest}"));
+        let v = line("7 x = 0 3 010203 2 31,3,87,1 x x").unwrap();
+        assert_eq!((v.operation, v.lent, v.answer), (Some(Operation::Straight), Some(7), Ok(3)));
+        assert_eq!((v.output, v.list), (vec![1, 2, 3], vec![31, 3, 87, 1]));
+        let v = line("x x = 0 13 61 x x x x").unwrap();
+        assert_eq!((v.lent, v.answer, v.list), (None, Ok(13), vec![]));
+        let v = line("3 x = 10 0").unwrap();
+        assert_eq!((v.lent, v.answer), (Some(3), Err((10, 0))));
+        for rest in [
+            "7 = 10 0",
+            "7 4 = 10 0",
+            "7 x = 0 3 010203 2 31,3,87,1",
+            "7 x = 0 3 010203 2 31,3,87,1 x",
+            "7 x = 0 3 010203 2 31,3,87,1 1 4,4",
+            "7 x = 0 3 010203 2 31,3,87,1 x x x",
+            "7 x x = 10 0",
+            "y x = 10 0",
+        ] {
+            assert!(line(rest).is_none(), "{rest}");
+        }
+    }
+
+    #[test]
     fn no_cases() {
         for rest in [
             "= 10 0",
@@ -140,7 +220,8 @@ mod tests {
         ] {
             assert!(line(rest).is_none(), "{rest}");
         }
-        assert!(vector(&format!("{CALL} x = 10 0")).is_none());
-        assert!(listed("020000001100 09000000610003000000010061 13 2048 = 9 0").is_none());
+        assert!(vector(&format!("old {CALL} x = 10 0")).is_none());
+        assert!(listed(&format!("{CALL} = 9 0")).is_none());
+        assert!(listed(&format!("new {CALL} x = 9 0")).is_none());
     }
 }

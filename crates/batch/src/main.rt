@@ -1,7 +1,8 @@
 // Answers cases on standard input, line by line, ROOT CARD OUTLEN WORKLEN: the root's and the card's bytes in hexadecimal, - for none, and how many
 // bytes of out buffer and work words are lent; what stands from ` = ` on is passed over. Writes a line for each: `0 LENGTH BYTES`, or a refusal's
 // number and place. A line `old ROOT CARD OUTLEN WORKLEN PLACES` also lends a list of so many words, or none where PLACES is x; its acceptance ends in the
-// number of entries and the list, or in `x x`.
+// number of entries and the list, or in `x x`. A line `straight ROOT CARD OUTLEN WORKLEN PLACES COUNTS` asks for straight shortening; COUNTS, a second list, is
+// x, and its acceptance ends in `x x` for that.
 mod memory;
 mod places;
 
@@ -9,6 +10,7 @@ use answers::Answer;
 use libc::STDERR_FILENO;
 use libc::STDIN_FILENO;
 use libc::STDOUT_FILENO;
+use operation::Pass;
 ghost use mathlib.Core.Path.{_≡_};
 ghost use Prim.Native.Nat.{_≤_};
 ghost use lib.ListN.{length};
@@ -76,25 +78,32 @@ fn least(a: usize, b: usize) -> usize
 }
 
 // The call with work words of its own.
-fn alone(card: &[u8], root: &[u8], out: &mut [u8]) -> Answer {
+fn alone(pass: Pass, card: &[u8], root: &[u8], out: &mut [u8]) -> Answer {
     memory::fill(out);
-    shortening::shorten_alone(card, root, out)
+    shortening::shorten_alone(pass, card, root, out)
 }
 
 // Whether it answers the same and leaves as long an out buffer, at the front of own, the same.
-fn is_same_alone(card: &[u8], root: &[u8], a: Answer, out: &[u8], own: &mut [u8]) -> bool {
+fn is_same_alone(
+    pass: Pass,
+    card: &[u8],
+    root: &[u8],
+    a: Answer,
+    out: &[u8],
+    own: &mut [u8],
+) -> bool {
     let n = least(out.len(), own.len());
-    let b = alone(card, root, &mut own[..n]);
+    let b = alone(pass, card, root, &mut own[..n]);
     answers::packed(a) == answers::packed(b) && wire::same(out, wire::part(own, 0, n))
 }
 
-fn answer(card: &[u8], root: &[u8], out: &mut [u8], work: &mut [u32], end: &[u8]) {
+fn answer(pass: Pass, card: &[u8], root: &[u8], out: &mut [u8], work: &mut [u32], end: &[u8]) {
     memory::fill(out);
     memory::fill_words(work);
-    let a = shortening::shorten(card, root, out, work);
+    let a = shortening::shorten(pass, card, root, out, work);
     if 2048 <= work.len() {
         let mut own = test_input::room();
-        if !is_same_alone(card, root, a, out, &mut own) {
+        if !is_same_alone(pass, card, root, a, out, &mut own) {
             say(b"broken promise: the call with work words of its own answers otherwise\n");
             return;
         }
@@ -104,6 +113,7 @@ fn answer(card: &[u8], root: &[u8], out: &mut [u8], work: &mut [u32], end: &[u8]
 
 // With so much lent, or all there is.
 fn lend(
+    pass: Pass,
     card: &[u8],
     root: &[u8],
     out: &mut [u8],
@@ -114,7 +124,7 @@ fn lend(
 ) {
     let n = least(bytes, out.len());
     let m = least(words, work.len());
-    answer(card, root, &mut out[..n], &mut work[..m], end);
+    answer(pass, card, root, &mut out[..n], &mut work[..m], end);
 }
 
 // What stands ahead of ` = `, or all.
@@ -156,6 +166,7 @@ fn plain_case(question: &[u8], out: &mut [u8], work: &mut [u32]) {
     let n = test_text::decode(first, &mut root);
     let m = test_text::decode(second, &mut card);
     lend(
+        Pass::Upstream,
         wire::part(&card, 0, m),
         wire::part(&root, 0, n),
         out,
@@ -166,21 +177,39 @@ fn plain_case(question: &[u8], out: &mut [u8], work: &mut [u32]) {
     );
 }
 
-// One case with a list, or with x for none.
-fn list_case(question: &[u8], out: &mut [u8], work: &mut [u32]) {
+// Whether what follows PLACES is as a case of a pass has it: nothing, or COUNTS.
+fn is_end(pass: Pass, rest: &[u8]) -> bool {
+    match pass {
+        Pass::Upstream => rest.len() == 0,
+        Pass::Straight => wire::same(rest, b" x"),
+    }
+}
+
+// One case of a pass with a list, or with x for none; how an acceptance ends where there is a list, and where there is none.
+fn list_case(
+    pass: Pass,
+    question: &[u8],
+    hint: &[u8],
+    end: &[u8],
+    bare_end: &[u8],
+    out: &mut [u8],
+    work: &mut [u32],
+) {
     let rest = test_text::beyond(question, b' ');
     let sizes = test_text::beyond(rest, b' ');
     let words = test_text::beyond(sizes, b' ');
+    let lists = test_text::beyond(words, b' ');
     let first = test_text::until(question, b' ');
     let second = test_text::until(rest, b' ');
     let third = test_text::until(sizes, b' ');
     let fourth = test_text::until(words, b' ');
-    let fifth = test_text::beyond(words, b' ');
+    let fifth = test_text::until(lists, b' ');
     let none = wire::same(fifth, b"x");
-    if !are_fields(first, second, third, fourth) || !none && !test_text::is_number(fifth) {
-        say(
-            b"no case: write old ROOT CARD OUTLEN WORKLEN PLACES in less than 262144 characters, PLACES a number of words or x for no list\n",
-        );
+    if !are_fields(first, second, third, fourth)
+        || !none && !test_text::is_number(fifth)
+        || !is_end(pass, wire::part(lists, fifth.len(), lists.len()))
+    {
+        say(hint);
         return;
     }
     let mut root = field_room();
@@ -189,17 +218,19 @@ fn list_case(question: &[u8], out: &mut [u8], work: &mut [u32]) {
     let m = test_text::decode(second, &mut card);
     if none {
         lend(
+            pass,
             wire::part(&card, 0, m),
             wire::part(&root, 0, n),
             out,
             test_text::decimal(third),
             work,
             test_text::decimal(fourth),
-            b" x x\n",
+            bare_end,
         );
         return;
     }
     places::lend(
+        pass,
         wire::part(&card, 0, m),
         wire::part(&root, 0, n),
         out,
@@ -207,13 +238,42 @@ fn list_case(question: &[u8], out: &mut [u8], work: &mut [u32]) {
         work,
         test_text::decimal(fourth),
         test_text::decimal(fifth),
+        end,
+    );
+}
+
+fn old_case(question: &[u8], out: &mut [u8], work: &mut [u32]) {
+    list_case(
+        Pass::Upstream,
+        question,
+        b"no case: write old ROOT CARD OUTLEN WORKLEN PLACES in less than 262144 characters, PLACES a number of words or x for no list\n",
+        b"\n",
+        b" x x\n",
+        out,
+        work,
+    );
+}
+
+fn straight_case(question: &[u8], out: &mut [u8], work: &mut [u32]) {
+    list_case(
+        Pass::Straight,
+        question,
+        b"no case: write straight ROOT CARD OUTLEN WORKLEN PLACES COUNTS in less than 262144 characters, PLACES a number of words or x for no list, COUNTS x\n",
+        b" x x\n",
+        b" x x x x\n",
+        out,
+        work,
     );
 }
 
 fn case(line: &[u8], out: &mut [u8], work: &mut [u32]) {
     let question = asked(line);
     if wire::same(wire::part(question, 0, 4), b"old ") {
-        list_case(wire::part(question, 4, question.len()), out, work);
+        old_case(wire::part(question, 4, question.len()), out, work);
+        return;
+    }
+    if wire::same(wire::part(question, 0, 9), b"straight ") {
+        straight_case(wire::part(question, 9, question.len()), out, work);
         return;
     }
     plain_case(question, out, work);

@@ -5,6 +5,7 @@ use crate::say;
 use crate::say_output;
 use answers::Answer;
 use libc::STDOUT_FILENO;
+use operation::Pass;
 use shortening_places::Listed;
 ghost use mathlib.Core.Path.{_≡_};
 ghost use lib.ListN.{length};
@@ -38,8 +39,8 @@ fn say_words(list: &[u32], entries: usize) {
     }
 }
 
-// The answer, where the lent memory is as it promises.
-fn say_listed(r: Listed, out: &[u8], work: &[u32], list: &[u32]) {
+// The answer, where the lent memory is as it promises; an acceptance ends so.
+fn say_listed(r: Listed, out: &[u8], work: &[u32], list: &[u32], end: &[u8]) {
     let a = r.answer;
     if !memory::is_kept(a, out, work) || !memory::is_list_kept(a, r.entries, list) {
         say(
@@ -54,25 +55,32 @@ fn say_listed(r: Listed, out: &[u8], work: &[u32], list: &[u32]) {
             io::print_decimal(STDOUT_FILENO, r.entries as u64);
             say(b" ");
             say_words(list, r.entries);
-            say(b"\n");
+            say(end);
         }
         _ => test_input::say_refusal(a),
     }
 }
 
 // The call with the work words that are lent.
-fn called(card: &[u8], root: &[u8], out: &mut [u8], work: &mut [u32], list: &mut [u32]) -> Listed {
+fn called(
+    pass: Pass,
+    card: &[u8],
+    root: &[u8],
+    out: &mut [u8],
+    work: &mut [u32],
+    list: &mut [u32],
+) -> Listed {
     memory::fill(out);
     memory::fill_words(work);
     memory::fill_words(list);
-    shortening_places::shorten_places(card, root, out, work, list)
+    shortening_places::shorten_places(pass, card, root, out, work, list)
 }
 
 // The call with work words of its own.
-fn alone(card: &[u8], root: &[u8], out: &mut [u8], list: &mut [u32]) -> Listed {
+fn alone(pass: Pass, card: &[u8], root: &[u8], out: &mut [u8], list: &mut [u32]) -> Listed {
     memory::fill(out);
     memory::fill_words(list);
-    shortening_places::shorten_places_alone(card, root, out, list)
+    shortening_places::shorten_places_alone(pass, card, root, out, list)
 }
 
 fn are_same(r: Listed, s: Listed) -> bool {
@@ -83,6 +91,7 @@ fn are_same(r: Listed, s: Listed) -> bool {
 
 // Whether it answers the same and leaves an out buffer and a list of its own the same.
 fn is_same(
+    pass: Pass,
     card: &[u8],
     root: &[u8],
     r: Listed,
@@ -91,30 +100,55 @@ fn is_same(
     own: &mut [u8],
     own_list: &mut [u32],
 ) -> bool {
-    let s = alone(card, root, own, own_list);
+    let s = alone(pass, card, root, own, own_list);
     are_same(r, s) && wire::same(out, own) && memory::same_words(list, own_list)
 }
 
 // The same with as much lent.
-fn is_same_alone(card: &[u8], root: &[u8], r: Listed, out: &[u8], list: &[u32]) -> bool {
+fn is_same_alone(
+    pass: Pass,
+    card: &[u8],
+    root: &[u8],
+    r: Listed,
+    out: &[u8],
+    list: &[u32],
+) -> bool {
     let mut own = test_input::room();
     let mut own_list = list_room();
     let n = least(out.len(), 2000000);
     let m = least(list.len(), 65536);
-    is_same(card, root, r, out, list, &mut own[..n], &mut own_list[..m])
+    is_same(
+        pass,
+        card,
+        root,
+        r,
+        out,
+        list,
+        &mut own[..n],
+        &mut own_list[..m],
+    )
 }
 
-fn answer(card: &[u8], root: &[u8], out: &mut [u8], work: &mut [u32], list: &mut [u32]) {
-    let r = called(card, root, out, work, list);
-    if 2048 <= work.len() && !is_same_alone(card, root, r, out, list) {
+fn answer(
+    pass: Pass,
+    card: &[u8],
+    root: &[u8],
+    out: &mut [u8],
+    work: &mut [u32],
+    list: &mut [u32],
+    end: &[u8],
+) {
+    let r = called(pass, card, root, out, work, list);
+    if 2048 <= work.len() && !is_same_alone(pass, card, root, r, out, list) {
         say(b"broken promise: the call with work words of its own answers otherwise\n");
         return;
     }
-    say_listed(r, out, work, list);
+    say_listed(r, out, work, list, end);
 }
 
 // With so much lent, or all there is.
 pub fn lend(
+    pass: Pass,
     card: &[u8],
     root: &[u8],
     out: &mut [u8],
@@ -122,10 +156,19 @@ pub fn lend(
     work: &mut [u32],
     words: usize,
     places: usize,
+    end: &[u8],
 ) {
     let mut list = list_room();
     let n = least(bytes, out.len());
     let m = least(words, work.len());
     let k = least(places, 65536);
-    answer(card, root, &mut out[..n], &mut work[..m], &mut list[..k]);
+    answer(
+        pass,
+        card,
+        root,
+        &mut out[..n],
+        &mut work[..m],
+        &mut list[..k],
+        end,
+    );
 }

@@ -16,11 +16,10 @@ use Rattle.rast.specs.Final.{isAmong, finalPath}
 use Rattle.rast.proofs.Tests.{by-test}
 use Rattle.rast.proofs.Names.{turned}
 use Rattle.operation.specs.declared.Shortening.{Shortening}
-use Rattle.operation.specs.declared.Shortening.the-variants.{Upstream, Weighed}
 use Rattle.operation.specs.Operations.{operationOf, samePaths}
 use Rattle.prefix.specs.Prefix.{Scope, prefixIn}
 use Rattle.comparing.specs.Compares.{placeIn, baseAt, sameBase}
-use Rattle.comparing.proofs.Operations.{upstream-path, paths-of}
+use Rattle.comparing.proofs.Operations.{path-bytes, paths-of}
 use Rattle.chains.specs.declared.Want.{Want}
 use Rattle.chains.specs.declared.Want.the-variants.{Named, Based, Runtime}
 use Rattle.chains.specs.Chains.{room, nameAt, wordAt, bucketOf, headOf, nextOf, hasWanted, hasNamed, isWanted, seek}
@@ -38,26 +37,21 @@ use Rattle.choosing.proofs.Lists.{Base, IsNamed, Bases, named-is, base-
 abbrev Run : Bytes
 Run = encode «dafny_runtime»
 
--- the choice among bases, operation by operation
+-- the choice among bases
 choice-one : (op : Shortening) (prefix b : Bytes) → choice op prefix (b ∷ []) ≡ some b
 unfolding choice finalPath
-choice-one Upstream prefix b = refl
-choice-one Weighed prefix b = refl
+choice-one op prefix b = refl
 
 choice-several : (op : Shortening) (prefix : Bytes) (bs : List Bytes) → 1 < length bs
     → choice op prefix bs ≡ cond (isAmong (samePaths op) prefix bs) (some prefix) (cond (isAmong (samePaths op) Run bs) (some Run) none)
 unfolding choice finalPath
-choice-several Upstream prefix bs h =
+choice-several op prefix bs h =
     rw (ne-eqb (length bs) 1 (λ e. omega arith))
-    (by-test (isAmong sameBytes prefix bs) (λ t. rw t) (λ t. rw t (by-test (isAmong sameBytes Run bs) (λ u. rw u) (λ u. rw u))))
-choice-several Weighed prefix bs h =
-    rw (ne-eqb (length bs) 1 (λ e. omega arith))
-    (by-test (isAmong sameBytes prefix bs) (λ t. rw t) (λ t. rw t (by-test (isAmong sameBytes Run bs) (λ u. rw u) (λ u. rw u))))
+    (by-test (isAmong (samePaths op) prefix bs) (λ t. rw t) (λ t. rw t (by-test (isAmong (samePaths op) Run bs) (λ u. rw u) (λ u. rw u))))
 
 -- bases that are the same are the same bytes
 paths-equal : (op : Shortening) (a b : Bytes) → samePaths op a b ≡ true → a ≡ b
-paths-equal Upstream a b h = sameBytes-true a b h
-paths-equal Weighed a b h = sameBytes-true a b h
+paths-equal op a b h = sameBytes-true a b h
 
 -- compared with the prefix, a word's upper half does not matter
 pub same-prefix : (s : Scope) (w : ℕ) → sameBase s w 0 ≡ samePaths (s .op) (baseAt s (placeIn w)) (prefixIn s)
@@ -154,7 +148,7 @@ module _ (s : Scope) (words : List ℕ) (n : ℕ) (r : n ≤ room words) (c : Ch
         (λ p. absurd (true≢false (sym (prefix-true i t p) ∙ latest-none (Test (Based 0)) n z i l)))
         (λ p. rw p
         (let b : Bytes = recordAt (s .card) (placeIn (wordAt words i)) in
-        upstream-path (s .op) b Run (sameBytes b Run) refl ∙ turned (paths-of (s .op)) b Run))))
+        path-bytes (s .op) b Run (sameBytes b Run) refl ∙ turned (paths-of (s .op)) b Run))))
         (λ t. rw t))
 
     runtime-base : latest (Test (Based 0)) n ≡ 0 → (i : ℕ) → i < n → Test Runtime i ≡ true → Base s words i ≡ Run

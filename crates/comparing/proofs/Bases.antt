@@ -13,7 +13,7 @@ use Rattle.operation.specs.declared.Shortening.{Shortening}
 use Rattle.operation.specs.Operations.{samePaths}
 use Rattle.prefix.specs.Prefix.{Scope, prefixIn}
 use Rattle.comparing.specs.Compares.{hash, placeIn, baseWord, baseAt, sameBase}
-use Rattle.comparing.proofs.Operations.{upstream-path, paths-of}
+use Rattle.comparing.proofs.Operations.{path-bytes, paths-of}
 use Rattle.comparing.proofs.Hashes.{hash-small}
 
 module _ (s : Scope) (v w : ℕ) where
@@ -25,12 +25,12 @@ module _ (s : Scope) (v w : ℕ) where
     pub base-left : v % 65536 ≡ 0 → (w % 65536 ≡ 0 → ⊥) → x ≡ recordAt (s .card) (w % 65536) → r ≡ sameBase s v w
     unfolding sameBase baseAt
     base-left a b e =
-        upstream-path (s .op) x (prefixIn s) r f ∙ ap (λ (y : Bytes). samePaths (s .op) y (prefixIn s)) e
+        path-bytes (s .op) x (prefixIn s) r f ∙ ap (λ (y : Bytes). samePaths (s .op) y (prefixIn s)) e
         ∙ turned (paths-of (s .op)) (recordAt (s .card) (w % 65536)) (prefixIn s) ∙ rw (a, ne-eqb (w % 65536) 0 b)
 
     pub base-right : (v % 65536 ≡ 0 → ⊥) → w % 65536 ≡ 0 → x ≡ recordAt (s .card) (v % 65536) → r ≡ sameBase s v w
     unfolding sameBase baseAt
-    base-right a b e = upstream-path (s .op) x (prefixIn s) r f ∙ ap (λ (y : Bytes). samePaths (s .op) y (prefixIn s)) e ∙ rw (b, ne-eqb (v % 65536) 0 a)
+    base-right a b e = path-bytes (s .op) x (prefixIn s) r f ∙ ap (λ (y : Bytes). samePaths (s .op) y (prefixIn s)) e ∙ rw (b, ne-eqb (v % 65536) 0 a)
 
   module _ (a : v % 65536 ≡ 0 → ⊥) (b : w % 65536 ≡ 0 → ⊥) where
     pub base-tags : (v / 65536 ≡ w / 65536 → ⊥) → false ≡ sameBase s v w
@@ -46,7 +46,7 @@ module _ (s : Scope) (v w : ℕ) where
 module _ (s : Scope) (place : ℕ) (x : Bytes) (r : Bool) where
   pub is-base-prefix : place ≡ 0 → r ≡ sameBytes x (prefixIn s) → r ≡ samePaths (s .op) (baseAt s place) x
   unfolding baseAt
-  is-base-prefix a e = upstream-path (s .op) x (prefixIn s) r e ∙ turned (paths-of (s .op)) x (prefixIn s) ∙ rw a
+  is-base-prefix a e = path-bytes (s .op) x (prefixIn s) r e ∙ turned (paths-of (s .op)) x (prefixIn s) ∙ rw a
 
   pub is-base-path : (place ≡ 0 → ⊥) → (y : Bytes) → y ≡ recordAt (s .card) place → r ≡ samePaths (s .op) y x → r ≡ samePaths (s .op) (baseAt s place) x
   unfolding baseAt

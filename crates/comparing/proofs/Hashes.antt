@@ -8,7 +8,6 @@ use lib.ListN.{length, take, drop, getD, length-drop}
 use lib.Seq.{drop-cons, drop-drop}
 use Rattle.wire.specs.Numbers.{Bytes, num}
 use Rattle.operation.specs.declared.Shortening.{Shortening}
-use Rattle.operation.specs.declared.Shortening.the-variants.{Upstream, Weighed}
 use Rattle.comparing.specs.Compares.{mixed, hashRest, hashFrom, hash}
 
 pub mixed-below : (h x : ℕ) → mixed h x < 2 ^ 32
@@ -56,5 +55,4 @@ module _ (s : Bytes) (h₀ h i : ℕ) (f : h₀ ≡ hashFrom h (drop i s)) where
 
 -- a hash fits a word
 pub hash-small : (op : Shortening) (s : Bytes) → hash op s < 2 ^ 32
-hash-small Upstream s = omega arith
-hash-small Weighed s = omega arith
+hash-small op s = omega arith

@@ -6,7 +6,6 @@ use lib.Dec.{eqb}
 use Rattle.wire.specs.Numbers.{Bytes, num}
 use Rattle.records.specs.Record.{recordAt}
 use Rattle.operation.specs.declared.Shortening.{Shortening}
-use Rattle.operation.specs.declared.Shortening.the-variants.{Upstream, Weighed}
 use Rattle.operation.specs.Operations.{samePaths}
 use Rattle.prefix.specs.Prefix.{Scope, prefixIn}
 
@@ -28,8 +27,7 @@ hashFrom h (a ∷ (b ∷ (c ∷ (d ∷ s)))) = hashFrom (mixed h (num (a ∷ (b 
 
 -- of a name, and of a path's record: the same where these are the same. The last factor brings every byte to the upper half.
 abbrev pub hash : Shortening → Bytes → ℕ
-hash Upstream s = hashFrom 0 s * 1831565813 % 4294967296
-hash Weighed s = hashFrom 0 s * 1831565813 % 4294967296
+hash op s = hashFrom 0 s * 1831565813 % 4294967296
 
 -- a word's lower half is a base's place in the card, 0 for the prefix; its upper half is that of the hash of the path's record
 abbrev pub placeIn : ℕ → ℕ

@@ -14,36 +14,37 @@ use Rattle.answers.proofs.Plain.{packed-plain}
 use Rattle.wire.specs.Numbers.{Bytes, AreBytes}
 use Rattle.wire.proofs.Numbers.{are-bytes}
 use Rattle.records.specs.Record.{tree}
-use Rattle.rast.specs.Operation.{upstream}
 use Rattle.rast.proofs.Tests.{by-test}
 use Rattle.factor_paths.specs.Apply.{apply}
-use Rattle.size.proofs.Bound.{card-bound}
+use Rattle.size.proofs.Bound.{card-most}
 use Rattle.outcome.specs.Outcome.{Outcome, admitted, shorten}
 use Rattle.outcome.proofs.Accepted.{admitted-sound, refused-number}
 use Rattle.places.specs.Places.{Entry}
 use Rattle.places.specs.Spots.{ListExact}
 use Rattle.places.specs.Listing.{Listing, places, shortenListing}
 use Rattle.places.proofs.Rises.{places-few}
+use Rattle.operation.specs.declared.Pass.{Pass}
+use Rattle.operation.specs.Passes.{repeats, asked}
 use Rattle.shortening_places.specs.declared.Listed.{Listed}
 use Rattle.shortening_places.specs.Placed.{Alone}
 use Rattle.console.proofs.Plain.{value-small}
 use Rattle.console.specs.PackedPlaces.{PackedPlaces}
 
-module _ (card root out : Bytes) (work list : List ℕ) (b : AreBytes card) where
+module _ (pass : Pass) (card root out : Bytes) (work list : List ℕ) (b : AreBytes card) where
   abbrev L : Listing
-  L = shortenListing upstream card root out work list
+  L = shortenListing (asked pass) card root out work list
 
   abbrev O : Outcome
-  O = shorten upstream card root out work
+  O = shorten (asked pass) card root out work
 
   abbrev Places : List Entry
-  Places = places upstream card root out work list
+  Places = places (asked pass) card root out work list
 
   -- a length or place stands whole in the packed number
   value-whole : value (L .answer) < 4294967296
   unfolding shortenListing
   value-whole =
-      let v = value-small card root out work b in
+      let v = value-small (repeats pass) card root out work b in
       by-test (eqb (number (O .answer)) 0)
       (λ t. by-test (ltb (length list) (2 * length Places)) (λ u. rw (t, u) (omega arith)) (λ u. rw (t, u) v))
       (λ t. rw t v)
@@ -58,15 +59,15 @@ module _ (card root out : Bytes) (work list : List ℕ) (b : AreBytes card) wher
 
   pub entries-whole : L .entries < 4294967296
   unfolding shortenListing shorten
-  entries-whole = go (admitted upstream card root (length work)) refl
+  entries-whole = go (admitted (asked pass) card root (length work)) refl
     where
-      go : (v : Verdict) → admitted upstream card root (length work) ≡ v → L .entries < 4294967296
-      go (Refused a) e = rw (e, ne-eqb (number a) 0 (refused-number upstream card root (length work) a e)) (omega arith)
+      go : (v : Verdict) → admitted (asked pass) card root (length work) ≡ v → L .entries < 4294967296
+      go (Refused a) e = rw (e, ne-eqb (number a) 0 (refused-number (asked pass) card root (length work) a e)) (omega arith)
       go Sound e =
-          let s = admitted-sound upstream card root (length work) e in
-          let l = card-bound (tree root) card b (s .card-sound) in
+          let s = admitted-sound (asked pass) card root (length work) e in
+          let l = card-most (repeats pass) (tree root) card b (s .card-sound) in
           let m = s .card-length in
-          let f = places-few 0 (tree card) (apply upstream (tree root) (tree card)) in
+          let f = places-few 0 (tree card) (apply (asked pass) (tree root) (tree card)) in
           entries-most (omega (arith, l, m, f))
 
   answer-whole : packed (L .answer) ≡ number (L .answer) * 4294967296 + value (L .answer)
@@ -75,39 +76,40 @@ module _ (card root out : Bytes) (work list : List ℕ) (b : AreBytes card) wher
 abbrev own-words : List ℕ
 own-words = replicate 2048 0
 
-module _ (card root out : Bytes) (list : List ℕ) (entries : ℕ) (bc : (i : ℕ) → getD card i 0 < 256) {r : Listed} {out′ : Bytes} {list′ : List ℕ}
-    (p : Alone card root out list r out′ list′) where
+module _ (pass : Pass) (card root out : Bytes) (list : List ℕ) (entries : ℕ) (bc : (i : ℕ) → getD card i 0 < 256) {r : Listed} {out′ : Bytes} {list′ : List ℕ}
+    (p : Alone pass card root out list r out′ list′) where
   pub entries-fit : r .entries < 4294967296
-  entries-fit = let e = p .entries-are in let l = entries-whole card root out own-words list (are-bytes card bc) in omega (arith, e, l)
+  entries-fit = let e = p .entries-are in let l = entries-whole pass card root out own-words list (are-bytes card bc) in omega (arith, e, l)
 
   abbrev Number : ℕ
-  Number = number (shortenListing upstream card root out own-words list .answer)
+  Number = number (shortenListing (asked pass) card root out own-words list .answer)
 
   -- where it refuses the lent word is left
   packs-as : (a entries′ : ℕ) → a ≡ packed (r .answer)
       → entries′ ≡ cond (eqb Number 0) (r .entries) entries
-      → PackedPlaces card root out list entries a out′ list′ entries′
+      → PackedPlaces pass card root out list entries a out′ list′ entries′
   packs-as a entries′ e f =
       record {
-        answer-is = e ∙ ap packed (p .answer-is) ∙ answer-whole card root out own-words list (are-bytes card bc);
-        whole = value-whole card root out own-words list (are-bytes card bc);
+        answer-is = e ∙ ap packed (p .answer-is) ∙ answer-whole pass card root out own-words list (are-bytes card bc);
+        whole = value-whole pass card root out own-words list (are-bytes card bc);
         out-is = p .out-is;
         list-is = p .list-is;
         entries-are = f ∙ ap (λ (n : ℕ). cond (eqb Number 0) n entries) (p .entries-are);
         names = λ n h. p .names n (p .answer-is ∙ h);
+        bound = λ n h. p .bound n (p .answer-is ∙ h);
         exact = λ n h.
             let z : entries′ ≡ r .entries = f ∙ ap (λ (x : Bool). cond x (r .entries) entries) (eq-eqb Number 0 (ap number h)) in
             subst (λ (k : ℕ). ListExact card (take n out′) k list′) (sym z) (p .exact n (p .answer-is ∙ h));
       }
 
-  pub packs-refusal : (k a : ℕ) → k ≡ number (r .answer) → 0 < k → a ≡ packed (r .answer) → PackedPlaces card root out list entries a out′ list′ entries
+  pub packs-refusal : (k a : ℕ) → k ≡ number (r .answer) → 0 < k → a ≡ packed (r .answer) → PackedPlaces pass card root out list entries a out′ list′ entries
   packs-refusal k a q l e =
       packs-as a entries e
       (sym (ap (λ (x : Bool). cond x (r .entries) entries)
       (ne-eqb Number 0 (λ z. let f = ap number (p .answer-is) in omega (arith, z, f, q, l)))))
 
   pub packs-entries : (k a : ℕ) → k ≡ number (r .answer) → k ≤ 0 → a ≡ packed (r .answer)
-      → PackedPlaces card root out list entries a out′ list′ (r .entries)
+      → PackedPlaces pass card root out list entries a out′ list′ (r .entries)
   packs-entries k a q l e =
       packs-as a (r .entries) e
       (sym (ap (λ (x : Bool). cond x (r .entries) entries) (eq-eqb Number 0 (let f = ap number (p .answer-is) in omega (arith, f, q, l)))))

@@ -1,5 +1,6 @@
 -- An answer's length or place is under 2 ^ 32, so that it stands whole in the packed number. Assumes nothing.
 use mathlib.Core.Path.{_≡_, refl, ap}
+use mathlib.Core.Bool.{Bool}
 use mathlib.Core.List.{List}
 use Prim.Native.Nat.{ℕ, _+_, _*_, _-_, _<_, _≤_}
 use native.Mathlib.Omega.{arith}
@@ -14,44 +15,47 @@ use Rattle.wire.specs.Numbers.{Bytes, AreBytes}
 use Rattle.records.specs.Record.{encode, tree, deep}
 use Rattle.records.proofs.Tree.{encode-six}
 use Rattle.rast.specs.Path.{MSel}
-use Rattle.rast.specs.Operation.{upstream}
+use Rattle.rast.specs.Operation.{Operation, shortening}
 use Rattle.rast.specs.Mod.{nameOf}
 use Rattle.rast.proofs.Tests.{by-test, by-option}
-use Rattle.size.proofs.Bound.{card-bound}
+use Rattle.size.proofs.Bound.{card-most}
 use Rattle.outcome.specs.FullTable.{fullTable}
 use Rattle.outcome.specs.Outcome.{output, admitted, shorten}
 use Rattle.outcome.proofs.Places.{admitted-place}
 use Rattle.outcome.proofs.Accepted.{admitted-sound}
 use Rattle.outcome.proofs.Full.{full-answer}
 
-module _ (card root out : Bytes) (work : List ℕ) (b : AreBytes card) where
+module _ (again : Bool) (card root out : Bytes) (work : List ℕ) (b : AreBytes card) where
+  abbrev O : Operation
+  O = shortening again
+
   -- a full table's place lies in the card
-  full-small : (place : ℕ) → shorten upstream card root out work .answer ≡ FullTable place → place ≤ length card
+  full-small : (place : ℕ) → shorten O card root out work .answer ≡ FullTable place → place ≤ length card
   full-small place h =
-      let f = full-answer upstream refl card root out work b place h in
+      let f = full-answer O refl card root out work b place h in
       let s = ap length (f .stands) in
       let t = length-take (length (encode (f .found))) (drop place card) in
       let d = length-drop place card in
       let l = encode-six (f .found) in
       omega arith
 
-  pub value-small : value (shorten upstream card root out work .answer) < 4294967296
+  pub value-small : value (shorten O card root out work .answer) < 4294967296
   unfolding shorten
-  value-small = go (admitted upstream card root (length work)) refl
+  value-small = go (admitted O card root (length work)) refl
     where
-      go : (v : Verdict) → admitted upstream card root (length work) ≡ v → value (shorten upstream card root out work .answer) < 4294967296
+      go : (v : Verdict) → admitted O card root (length work) ≡ v → value (shorten O card root out work .answer) < 4294967296
       go (Refused a) e =
-          let p : value a ≤ 32768 = rw e at (admitted-place card root (length work)) in
+          let p : value a ≤ 32768 = rw e at (admitted-place again card root (length work)) in
           rw e (omega arith)
       go Sound e =
-          let s = admitted-sound upstream card root (length work) e in
-          by-option (fullTable upstream 512 (deep (tree card)) (tree card) (MSel (tree root) (nameOf (tree card))) 0)
-          (λ t. by-test (ltb (length out) (length (output upstream card root out work)))
+          let s = admitted-sound O card root (length work) e in
+          by-option (fullTable O 512 (deep (tree card)) (tree card) (MSel (tree root) (nameOf (tree card))) 0)
+          (λ t. by-test (ltb (length out) (length (output O card root out work)))
           (λ r. rw (e, t, r) (omega arith))
-          (λ r. let l = card-bound (tree root) card b (s .card-sound) in let m = s .card-length in rw (e, t, r) (omega arith)))
+          (λ r. let l = card-most again (tree root) card b (s .card-sound) in let m = s .card-length in rw (e, t, r) (omega arith)))
           (λ x t. let l = full-small x (rw (e, t) refl) in let m = s .card-length in rw (e, t) (omega arith))
 
   -- THE LAW
-  pub answer-plain : packed (shorten upstream card root out work .answer)
-      ≡ number (shorten upstream card root out work .answer) * 4294967296 + value (shorten upstream card root out work .answer)
-  answer-plain = packed-plain (shorten upstream card root out work .answer) value-small
+  pub answer-plain : packed (shorten O card root out work .answer)
+      ≡ number (shorten O card root out work .answer) * 4294967296 + value (shorten O card root out work .answer)
+  answer-plain = packed-plain (shorten O card root out work .answer) value-small

@@ -1,7 +1,7 @@
 -- The uses put ahead of a module: what looking a name up in them gives, what they are, and the names that they bear. Assumes nothing.
 use mathlib.Core.Path.{_≡_, refl, sym, ap, _∙_}
 use mathlib.Core.List.{List, [], _∷_, _++_}
-use mathlib.Core.Bool.{true, false, not, _||_, or-true, or-false, or-assoc, and-eq-true-iff, false≢true, true≢false}
+use mathlib.Core.Bool.{Bool, true, false, not, _||_, or-true, or-false, or-assoc, and-eq-true-iff, false≢true, true≢false}
 use mathlib.Core.Option.{none, some}
 use Prim.Native.Nat.{ℕ}
 use native.Mathlib.Omega.{arith}
@@ -9,7 +9,7 @@ use borrow.Author.Tests.{not-true}
 use Rattle.wire.proofs.Numbers.{sameBytes-true}
 use Rattle.records.specs.Record.{Record, Records, _▸_, nth}
 use Rattle.rast.specs.Path.{Name, Path, MSel}
-use Rattle.rast.specs.Operation.{Operation, upstream}
+use Rattle.rast.specs.Operation.{Operation, shortening}
 use Rattle.rast.specs.Mod.{Mod·Fold}
 use Rattle.rast.specs.Visitor.{VisitModMapping, VisitMod}
 use Rattle.rast.proofs.Tests.{by-test, by-option, there-is}
@@ -145,8 +145,8 @@ module _ (op : Operation) where
 abbrev pub Marks : Operation → Type 0
 Marks op = (a b : Name) → op .sameName a b ≡ true → marked a ≡ marked b
 
-pub upstream-marks : Marks upstream
-upstream-marks a b e = ap marked (sameBytes-true a b e)
+pub shortening-marks : (again : Bool) → Marks (shortening again)
+shortening-marks again a b e = ap marked (sameBytes-true a b e)
 
 unmarked-has : (op : Operation) → Marks op → (n : Name) (ns : List Name) → has op n ns ≡ true → unmarkedAll ns ≡ true → marked n ≡ false
 unfolding has unmarkedAll

@@ -8,11 +8,15 @@ use native.Mathlib.Omega.{arith}
 use lib.ListN.{length, take, drop, getD, length-take, length-drop}
 use lib.Seq.{drop-drop, take-all, length-take-le}
 use lib.Dec.{eqb, leb, ltb}
-use borrow.Author.Tests.{lt-leb, le-leb, eq-eqb, ne-eqb}
+use borrow.Author.Tests.{lt-leb, le-leb, leb-true, leb-false, eq-eqb, ne-eqb}
 use Rattle.wire.specs.Numbers.{Bytes}
 use Rattle.records.specs.Record.{lengthOf, kindOf, contentOf, firstRecord, restOf}
 use Rattle.records.specs.Reading.{short}
 use Rattle.records.proofs.Tree.{long-enough}
+use Rattle.rast.proofs.Tests.{by-test}
+use Rattle.size.specs.Bound.{times}
+use Rattle.operation.specs.declared.Shortening.{Shortening}
+use Rattle.operation.specs.Operations.{operationOf}
 use Rattle.prefix.specs.Prefix.{Scope}
 use Rattle.chains.specs.Chains.{room, wordAt}
 use Rattle.adding.specs.Adds.{table}
@@ -24,15 +28,28 @@ use Rattle.rewriting.proofs.Parts.{parts-none, parts-step}
 use Rattle.growth.specs.Grows.{cardGrowth}
 use Rattle.fitting.specs.Fitting.{surelyFits, areFew, nestedFew, useMost, usesMost, isRoomy}
 
--- by the card's length
-module _ (card out : Bytes) (words : List ℕ) where
-  pub fits-not : length out / 42 < length card → false ≡ surelyFits card out words
-  unfolding surelyFits
-  fits-not h = rw (lt-leb (42 * length card) (length out) (let z : length out < 42 * length card = omega arith in z))
+-- dividing the one number and multiplying the other
+divided : (t n m : ℕ) → (n ≤ m / t → t * n ≤ m) → (m / t < n → m < t * n) → leb n (m / t) ≡ leb (t * n) m
+divided t n m f g =
+    by-test (leb n (m / t))
+    (λ h. h ∙ sym (le-leb (t * n) m (f (leb-true n (m / t) h))))
+    (λ h. h ∙ sym (lt-leb (t * n) m (g (leb-false n (m / t) h))))
 
-  pub fits-is : length card ≤ length out / 42 → (r : ℕ) → r ≡ room words → leb (length card / 18) r ≡ surelyFits card out words
+pub wide-again : (op : Shortening) (n m : ℕ) → operationOf op .walksAgain ≡ true → leb n (m / 42) ≡ leb (times (operationOf op) * n) m
+wide-again op n m e = rw e (divided 42 n m (λ h. omega arith) (λ h. omega arith))
+
+pub wide-once : (op : Shortening) (n m : ℕ) → operationOf op .walksAgain ≡ false → leb n (m / 4) ≡ leb (times (operationOf op) * n) m
+wide-once op n m e = rw e (divided 4 n m (λ h. omega arith) (λ h. omega arith))
+
+-- by the card's length
+module _ (op : Shortening) (card out : Bytes) (words : List ℕ) {w : Bool} (wide : w ≡ leb (times (operationOf op) * length card) (length out)) where
+  pub fits-not : w ≡ false → false ≡ surelyFits op card out words
   unfolding surelyFits
-  fits-is h r e = rw (le-leb (42 * length card) (length out) (let z : 42 * length card ≤ length out = omega arith in z), e)
+  fits-not h = rw (sym wide ∙ h)
+
+  pub fits-is : w ≡ true → (r : ℕ) → r ≡ room words → leb (length card / 18) r ≡ surelyFits op card out words
+  unfolding surelyFits
+  fits-is h r e = rw (sym wide ∙ h, e)
 
 -- one declaration
 pub many-is : (k n most : ℕ) → k ≡ 0x62 → ltb most (n / 18) ≡ (eqb k 0x62 && ltb most (n / 18))

@@ -6,6 +6,9 @@ use lib.ListN.{length, drop, getD}
 use lib.Dec.{eqb, leb, ltb}
 use Rattle.wire.specs.Numbers.{Bytes}
 use Rattle.records.specs.Record.{lengthOf, kindOf}
+use Rattle.size.specs.Bound.{times}
+use Rattle.operation.specs.declared.Shortening.{Shortening}
+use Rattle.operation.specs.Operations.{operationOf}
 use Rattle.prefix.specs.Prefix.{Scope}
 use Rattle.comparing.specs.Compares.{placeIn}
 use Rattle.chains.specs.Chains.{room, wordAt}
@@ -14,9 +17,9 @@ use Rattle.adding.specs.Settles.{ownWords}
 use Rattle.rewriting.specs.Rewrites.{partsOf, bodyOf}
 use Rattle.growth.specs.Grows.{cardGrowth}
 
--- by the card's length alone: an output is at most 42 times as long as its card, and a pair takes 18 bytes of a card
-unfoldable pub surelyFits : (card out : Bytes) → List ℕ → Bool
-surelyFits card out words = leb (42 * length card) (length out) && leb (length card / 18) (room words)
+-- by the card's length alone: how many times as long an output can be, and a pair takes 18 bytes of a card
+unfoldable pub surelyFits : Shortening → (card out : Bytes) → List ℕ → Bool
+surelyFits op card out words = leb (times (operationOf op) * length card) (length out) && leb (length card / 18) (room words)
 
 -- whether each declaration that holds a module is so small that no table of its modules has more pairs than this
 unfoldable pub areFew : ℕ → List Bytes → Bool

@@ -2,21 +2,33 @@
 use operation::Shortening;
 ghost use mathlib.Core.Path.{_≡_};
 ghost use mathlib.Core.Bool.{_&&_};
-ghost use Prim.Native.Nat.{_/_, _^_, _<_, _≤_};
-ghost use lib.Dec.{eqb, ltb};
+ghost use Prim.Native.Nat.{_*_, _/_, _^_, _<_, _≤_};
+ghost use lib.Dec.{eqb, leb, ltb};
+ghost use Rattle.size.specs.Bound.{times};
+ghost use Rattle.operation.specs.Operations.{operationOf};
 ghost use Rattle.prefix.specs.Prefix.{scope};
 ghost use Rattle.chains.specs.Chains.{room};
 ghost use Rattle.adding.specs.Adds.{table};
 ghost use Rattle.fitting.specs.Fitting.{surelyFits, nestedFew, useMost, usesMost, isRoomy};
 
-// By the card's length alone: an output is at most 42 times as long as its card, and a pair takes 18 bytes of a card.
-pub fn surely_fits(card: &[u8], out: &[u8], work: &[u32]) -> bool
-    ensures { λ r. ⌜ r ≡ surelyFits (now (card .entry)) (now (out .entry)) (now (work .entry)) ⌝ }
+// Whether the output of a card of so many bytes surely has room in so many.
+fn is_wide(op: Shortening, card: usize, out: usize) -> bool
+    ensures { λ r. ⌜ r ≡ leb (times (operationOf op) * card) out ⌝ }
 {
-    if out.len() / 42 < card.len() {
-        return false;
+    if operation::walks_again(op) {
+        return card <= out / 42;
     }
-    card.len() / 18 <= chains::room(work)
+    card <= out / 4
+}
+
+// By the card's length alone: how many times as long an output can be, and a pair takes 18 bytes of a card.
+pub fn surely_fits(op: Shortening, card: &[u8], out: &[u8], work: &[u32]) -> bool
+    ensures { λ r. ⌜ r ≡ surelyFits op (now (card .entry)) (now (out .entry)) (now (work .entry)) ⌝ }
+{
+    if is_wide(op, card.len(), out.len()) {
+        return card.len() / 18 <= chains::room(work);
+    }
+    false
 }
 
 // Whether a declaration of kind k and n bytes can hold a module with more pairs than this.

@@ -31,8 +31,8 @@ use Rattle.factor_paths.specs.LookUp.{bare}
 use Rattle.factor_paths.specs.Collects.{Visited, aType, anExpr, aDecl, holds, visitedAs, enters, single, collects, collectsAll}
 use Rattle.factor_paths.proofs.Tidy.{PathIn, Paths, fits-paths}
 use Rattle.operation.specs.declared.Shortening.{Shortening}
-use Rattle.operation.specs.declared.Shortening.the-variants.{Upstream, Weighed}
-use Rattle.operation.specs.Operations.{operationOf}
+use Rattle.operation.specs.Passes.{repeats}
+use Rattle.operation.specs.Operations.{passOf, operationOf}
 use Rattle.paths.proofs.Bytes.{paths-same}
 use Rattle.prefix.specs.Prefix.{Scope, prefixIn}
 use Rattle.comparing.specs.Compares.{baseAt}
@@ -50,8 +50,7 @@ self-canonical = (refl, omega arith, omega arith, tt)
 
 -- Self is told by its bytes
 self-same : (op : Shortening) (b : Path) → Canonical b → sameBytes (encode b) (encode Self) ≡ equal (operationOf op) b Self
-self-same Upstream b c = paths-same b Self c self-canonical
-self-same Weighed b c = paths-same b Self c self-canonical
+self-same op b c = paths-same (repeats (passOf op)) b Self c self-canonical
 
 -- what the visitor makes of a path that selects a name, and of any path that a path type or a path expression holds
 module _ (op : Operation) where

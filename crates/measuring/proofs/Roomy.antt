@@ -16,7 +16,7 @@ use Rattle.records.specs.Canonical.{Canonical, CanonicalAll}
 use Rattle.records.proofs.Fits.{FitsAll}
 use Rattle.rast.specs.Path.{Path}
 use Rattle.rast.proofs.Tests.{by-test}
-use Rattle.factor_paths.specs.Apply.{imports, apply}
+use Rattle.factor_paths.specs.Apply.{apply}
 use Rattle.factor_paths.proofs.Modules.{ModFields}
 use Rattle.outcome.specs.FullTable.{firstIn, fullTable}
 use Rattle.outcome.specs.Outcome.{admitted}
@@ -24,8 +24,7 @@ use Rattle.outcome.proofs.Accepted.{admitted-sound}
 use Rattle.outcome.proofs.Full.{inDecl}
 use Rattle.outcome.proofs.Few.{declared-few, apart-none}
 use Rattle.operation.specs.declared.Shortening.{Shortening}
-use Rattle.operation.specs.declared.Shortening.the-variants.{Upstream, Weighed}
-use Rattle.operation.specs.Operations.{operationOf, weightOf}
+use Rattle.operation.specs.Operations.{operationOf}
 use Rattle.chains.specs.Chains.{room}
 use Rattle.adding.specs.Adds.{Table}
 use Rattle.adding.specs.Settles.{ownWords}
@@ -86,13 +85,7 @@ module _ (op : Shortening) (card root : Bytes) (n : ℕ) (sound : admitted (oper
       bodyIn′ : Bytes → Bytes
       bodyIn′ c = contentOf (restOf (restOf (restOf c)))
 
-  grows : (op : Shortening) → weightOf op ≡ 0 → admitted (operationOf op) card root n ≡ Sound → length card ≤ 65536
-      → length (encode (apply (operationOf op) (tree root) (tree card)))
-      ≤ length card + cardGrowth op card + length (encodeAll (imports (operationOf op) (tree card) (Prefix card root)))
-  grows Weighed z e l = absurd (omega (arith, z))
-  grows Upstream z e l = card-grows (tree root) card (are-bytes card bc) (admitted-sound (operationOf Upstream) card root n e .card-sound) l
-
-  module _ (z : weightOf op ≡ 0) (t : Table) (own : Own card root op t) (out : Bytes) (e : isRoomy (outermost op card root) (length out) t ≡ true) where
+  module _ (t : Table) (own : Own card root op t) (out : Bytes) (e : isRoomy (outermost op card root) (length out) t ≡ true) where
     abbrev Most : ℕ
     Most = room (t .words)
 
@@ -119,7 +112,7 @@ module _ (op : Shortening) (card root : Bytes) (n : ℕ) (sound : admitted (oper
 
     pub roomy-fits : length (encode (apply (operationOf op) (tree root) (tree card))) ≤ length out
     roomy-fits =
-        let g = grows op z sound (reads .small) in
-        let u = uses-fit op card root (operationOf op .rootDepth) z reads t own (tests .0) in
+        let g = card-grows op (tree root) card (are-bytes card bc) (admitted-sound (operationOf op) card root n sound .card-sound) (reads .small) in
+        let u = uses-fit op card root (operationOf op .rootDepth) reads t own (tests .0) in
         let b = tests .1 in
         omega arith

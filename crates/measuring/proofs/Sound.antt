@@ -17,7 +17,7 @@ use Rattle.rast.specs.Path.{MSel, whether}
 use Rattle.rast.specs.Mod.{nameOf}
 use Rattle.rast.proofs.Tests.{by-test}
 use Rattle.factor_paths.specs.Apply.{apply}
-use Rattle.size.specs.Bound.{Bounded}
+use Rattle.size.specs.Bound.{times}
 use Rattle.size.proofs.Bound.{card-bound}
 use Rattle.outcome.specs.FullTable.{fullTable}
 use Rattle.outcome.specs.Outcome.{admitted}
@@ -25,8 +25,8 @@ use Rattle.outcome.proofs.Accepted.{admitted-sound}
 use Rattle.outcome.proofs.Few.{few-none}
 use Rattle.places.proofs.Weighed.{weighed, weightless}
 use Rattle.operation.specs.declared.Shortening.{Shortening}
-use Rattle.operation.specs.declared.Shortening.the-variants.{Upstream, Weighed}
-use Rattle.operation.specs.Operations.{operationOf, weightOf, weightBytes}
+use Rattle.operation.specs.Passes.{repeats}
+use Rattle.operation.specs.Operations.{passOf, operationOf, weightOf, weightBytes}
 use Rattle.operation.proofs.Weights.{weight-none}
 use Rattle.chains.specs.Chains.{room}
 use Rattle.adding.specs.Adds.{Table, table}
@@ -39,11 +39,6 @@ use Rattle.measuring.specs.declared.Written.the-variants.{Full, Length}
 use Rattle.fitting.specs.Fitting.{surelyFits, isRoomy}
 use Rattle.measuring.specs.Measured.{Output, output, firstMade, written, direct, inTwo, outermost, collected, wholeOutput}
 use Rattle.measuring.proofs.Roomy.{roomy-none, roomy-fits}
-
--- each operation's outputs are at most 42 times their cards
-bounded : (op : Shortening) → Bounded (operationOf op)
-bounded Upstream = card-bound
-bounded Weighed = card-bound
 
 module _ (op : Shortening) (card root : Bytes) (n : ℕ) (sound : admitted (operationOf op) card root n ≡ Sound)
     (bc : (i : ℕ) → getD card i 0 < 256) (br : (i : ℕ) → getD root i 0 < 256) where
@@ -61,8 +56,8 @@ module _ (op : Shortening) (card root : Bytes) (n : ℕ) (sound : admitted (oper
   unfolding cardMade
   is-module owner held = rw (le-ltb 65536 (length card) small)
 
-  output-bounded : length Bytes′ ≤ 42 * length card
-  output-bounded = bounded op (tree root) card (are-bytes card bc) (admitted-sound (operationOf op) card root n sound .card-sound)
+  output-bounded : length Bytes′ ≤ times (operationOf op) * length card
+  output-bounded = card-bound (repeats (passOf op)) (tree root) card (are-bytes card bc) (admitted-sound (operationOf op) card root n sound .card-sound)
 
   -- no table has more pairs than the card has 18 bytes
   pub few-full : (most : ℕ) → length card / 18 ≤ most → FullAt most ≡ none
@@ -149,15 +144,15 @@ module _ (op : Shortening) (card root : Bytes) (n : ℕ) (sound : admitted (oper
   -- THE LAW
   pub whole-sound : weightOf op ≡ 0 → (words : List ℕ) (out : Bytes) → Result words out (wholeOutput op card root words out)
   unfolding wholeOutput
-  whole-sound z words out = by-test (surelyFits card out words) (λ t. rw t (sure t)) (λ t. rw t (as-many (long-same words) other))
+  whole-sound z words out = by-test (surelyFits op card out words) (λ t. rw t (sure t)) (λ t. rw t (as-many (long-same words) other))
     where
       mine : Own card root op (collected op card root words)
       mine = unfold collected in collected-own op card root n sound bc br words
 
-      sure : surelyFits card out words ≡ true → Result words out (direct op card root 65537 (table 0 words) out)
+      sure : surelyFits op card out words ≡ true → Result words out (direct op card root 65537 (table 0 words) out)
       sure t =
-          let g = and-eq-true-iff (leb (42 * length card) (length out)) (leb (length card / 18) (room words)) .0 (unfold surelyFits in t) in
-          let wide = leb-true (42 * length card) (length out) (g .0) in
+          let g = and-eq-true-iff (leb (times (operationOf op) * length card) (length out)) (leb (length card / 18) (room words)) .0 (unfold surelyFits in t) in
+          let wide = leb-true (times (operationOf op) * length card) (length out) (g .0) in
           let bound = output-bounded in
           at-once z 65537 (table 0 words) (λ e. absurd (omega (arith, e))) out (few-full (room words) (leb-true (length card / 18) (room words) (g .1))) (omega
           arith)
@@ -168,6 +163,6 @@ module _ (op : Shortening) (card root : Bytes) (n : ℕ) (sound : admitted (oper
       other =
           by-test (isRoomy (outermost op card root) (length out) (collected op card root words))
           (λ t. rw t (at-once z 0 (collected op card root words) (λ e. mine) out
-          (roomy-none op card root n sound bc br z (collected op card root words) mine out t)
-          (roomy-fits op card root n sound bc br z (collected op card root words) mine out t)))
+          (roomy-none op card root n sound bc br (collected op card root words) mine out t)
+          (roomy-fits op card root n sound bc br (collected op card root words) mine out t)))
           (λ t. rw t (in-two z 0 (collected op card root words) (λ e. mine) out))

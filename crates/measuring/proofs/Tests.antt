@@ -88,13 +88,13 @@ module _ (op : Shortening) (card root : Bytes) (owner₀ : ℕ) (held₀ : Table
 
 -- which of them
 module _ (op : Shortening) (card root : Bytes) (words : List ℕ) (out : Bytes) where
-  pub surely-gives : {o : Output} {b : Bool} → b ≡ surelyFits card out words → b ≡ true → o ≡ direct op card root 65537 (table 0 words) out
+  pub surely-gives : {o : Output} {b : Bool} → b ≡ surelyFits op card out words → b ≡ true → o ≡ direct op card root 65537 (table 0 words) out
       → o ≡ wholeOutput op card root words out
   unfolding wholeOutput
   surely-gives e t x = x ∙ rw (← e, t)
 
   -- place is where the outermost module's name stands, and mine its table, as the code has them
-  module _ {b : Bool} (e : b ≡ surelyFits card out words) (t : b ≡ false) {place : ℕ} (p : place ≡ namePlace card 0) {mine : Table}
+  module _ {b : Bool} (e : b ≡ surelyFits op card out words) (t : b ≡ false) {place : ℕ} (p : place ≡ namePlace card 0) {mine : Table}
       (m : mine ≡ tableOf (scope op card root (place ∷ [])) 48 0 65537 (table 0 words))
       {d : Bool} (f : d ≡ isRoomy (scope op card root (place ∷ [])) (length out) mine) where
     is-mine : mine ≡ collected op card root words

@@ -61,4 +61,4 @@ module _ (op : Shortening) (card root : Bytes) where
   unfoldable pub wholeOutput : List ℕ → Bytes → Output
   wholeOutput words out =
       let mine : Table = collected words in
-      cond (surelyFits card out words) (direct 65537 (table 0 words) out) (cond (isRoomy outermost (length out) mine) (direct 0 mine out) (inTwo 0 mine out))
+      cond (surelyFits op card out words) (direct 65537 (table 0 words) out) (cond (isRoomy outermost (length out) mine) (direct 0 mine out) (inTwo 0 mine out))

@@ -65,7 +65,7 @@ pub fn write(op: Shortening, card: &[u8], root: &[u8], out: &mut [u8], work: &mu
     ensures { λ r. ⌜ output r (now (out .exit)) (now (work .exit))
         ≡ wholeOutput op (now (card .entry)) (now (root .entry)) (now (work .entry)) (now (out .entry)) ⌝ }
 {
-    if fitting::surely_fits(card, out, work) {
+    if fitting::surely_fits(op, card, out, work) {
         return write_at_once(op, card, root, out, work, 65537, 0);
     }
     let chain: [usize; 1] = [fields::name_place(card, 0)];

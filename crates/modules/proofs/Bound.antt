@@ -15,7 +15,6 @@ use Rattle.records.specs.Reading.{short}
 use Rattle.records.proofs.Tree.{record-length}
 use Rattle.rast.proofs.Tests.{by-test, one-of}
 use Rattle.operation.specs.declared.Shortening.{Shortening}
-use Rattle.operation.specs.declared.Shortening.the-variants.{Upstream, Weighed}
 use Rattle.operation.specs.Operations.{samePaths, weightBytes}
 use Rattle.operation.proofs.Weights.{weight-length, weight-small}
 use Rattle.prefix.specs.Prefix.{Scope, scope, selection}
@@ -41,8 +40,7 @@ use Rattle.modules.specs.Modules.{declarationMade, bodyMade, moduleMade}
 
 -- the uses: each has a name and a base that stand in the card
 same-self : (op : Shortening) (x : Bytes) → samePaths op x x ≡ true
-same-self Upstream x = sameBytes-self x
-same-self Weighed x = sameBytes-self x
+same-self op x = sameBytes-self x
 
 part-fits : (n at : ℕ) (card : Bytes) → length (take n (drop at card)) ≤ length card
 part-fits n at card =

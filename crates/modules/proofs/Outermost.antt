@@ -14,7 +14,6 @@ use Rattle.records.specs.Kinds.{path, mod′}
 use Rattle.records.proofs.Sound.{ReadsAs, sound-reads}
 use Rattle.records.proofs.Starts.{Starts}
 use Rattle.rast.specs.Path.{Path, MSel}
-use Rattle.rast.specs.Operation.{upstream}
 use Rattle.rast.specs.Mod.{nameOf}
 use Rattle.factor_paths.specs.Mapping.{Mapping}
 use Rattle.factor_paths.specs.Apply.{mappings, apply}
@@ -22,7 +21,6 @@ use Rattle.outcome.specs.FullTable.{fullTable}
 use Rattle.outcome.specs.Outcome.{admitted}
 use Rattle.outcome.proofs.Accepted.{admitted-sound}
 use Rattle.operation.specs.declared.Shortening.{Shortening}
-use Rattle.operation.specs.declared.Shortening.the-variants.{Upstream, Weighed}
 use Rattle.places.proofs.Weighed.{weighed}
 use Rattle.operation.specs.Operations.{operationOf, weightBytes}
 use Rattle.prefix.specs.Prefix.{Scope}
@@ -94,24 +92,16 @@ module _ (card root : Bytes) where
         (r .is-card .shallow) (le-refl (deep (tree card))) owner held t)
 
 -- what a card and a root that are admitted are
-upstream-reads : (card root : Bytes) (words : ℕ) → admitted upstream card root words ≡ Sound
-    → ((i : ℕ) → getD card i 0 < 256) → ((i : ℕ) → getD root i 0 < 256) → Reads card root 8
-upstream-reads card root words e bc br =
-    let a = admitted-sound upstream card root words e in
+pub admitted-reads : (op : Shortening) (card root : Bytes) (words : ℕ) → admitted (operationOf op) card root words ≡ Sound
+    → ((i : ℕ) → getD card i 0 < 256) → ((i : ℕ) → getD root i 0 < 256) → Reads card root (operationOf op .rootDepth)
+admitted-reads op card root words e bc br =
+    let a = admitted-sound (operationOf op) card root words e in
     record {
       small = (let l = a .card-length in omega arith);
       rooted = (let l = a .root-length in omega arith);
       is-card = sound-reads 48 mod′ card (are-bytes card bc) (a .card-sound);
       is-root = sound-reads 8 path root (are-bytes root br) (a .root-sound);
     }
-
-pub admitted-reads : (op : Shortening) (card root : Bytes) (words : ℕ) → admitted (operationOf op) card root words ≡ Sound
-    → ((i : ℕ) → getD card i 0 < 256) → ((i : ℕ) → getD root i 0 < 256) → Reads card root (operationOf op .rootDepth)
-admitted-reads op card root words e bc br = go op e
-  where
-    go : (op : Shortening) → admitted (operationOf op) card root words ≡ Sound → Reads card root (operationOf op .rootDepth)
-    go Upstream e = upstream-reads card root words e bc br
-    go Weighed e = upstream-reads card root words e bc br
 
 -- what is made of the outermost module, where there may be so many pairs
 pub record Outermost (op : Shortening) (card root : Bytes) (most : ℕ) (held : Table) (M : Made) : Type 0 where

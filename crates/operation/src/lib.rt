@@ -1,12 +1,41 @@
-// Which operation a walk is of. The code takes this value; the definitions speak of the Operation that it stands for.
+// Which operation a caller asks for, and which one a walk is of. The code takes these values; the definitions speak of the Operation that they stand for.
 ghost use mathlib.Core.Path.{_≡_};
-ghost use Rattle.operation.specs.Operations.{operationOf, weightOf};
+ghost use Rattle.operation.specs.Operations.{operationOf, weightOf, plainOf, weighedOf};
 
-pub enum Shortening {
-    // the one that the Dafny text defines
+// What a caller asks for.
+pub enum Pass {
+    // the operation that the Dafny text defines
     Upstream,
-    // the same, to be measured: every changed point has a weight, so that a length also says how many there are
-    Weighed,
+    // straight shortening: a nested module under its true path, a path type wrapped exactly once
+    Straight,
+}
+
+// What a walk does: a pass, and the same to be measured, where every changed point has a weight, so that a length also says how many there are.
+pub enum Shortening {
+    Upstream,
+    Straight,
+    WeighedUpstream,
+    WeighedStraight,
+}
+
+// A pass without weights.
+pub fn plain(pass: Pass) -> Shortening
+    ensures { λ r. ⌜ r ≡ plainOf pass ⌝ }
+{
+    match pass {
+        Pass::Upstream => Shortening::Upstream,
+        Pass::Straight => Shortening::Straight,
+    }
+}
+
+// A pass with them.
+pub fn weighed(pass: Pass) -> Shortening
+    ensures { λ r. ⌜ r ≡ weighedOf pass ⌝ }
+{
+    match pass {
+        Pass::Upstream => Shortening::WeighedUpstream,
+        Pass::Straight => Shortening::WeighedStraight,
+    }
 }
 
 // Whether the name of a nested module is added to its prefix once more.
@@ -15,7 +44,9 @@ pub fn names_again(op: Shortening) -> bool
 {
     match op {
         Shortening::Upstream => true, // ReplaceModDecl adds it, and so does PathSimplifier
-        Shortening::Weighed => true,
+        Shortening::Straight => false, // its own name alone
+        Shortening::WeighedUpstream => true,
+        Shortening::WeighedStraight => false,
     }
 }
 
@@ -25,7 +56,9 @@ pub fn walks_again(op: Shortening) -> bool
 {
     match op {
         Shortening::Upstream => true, // ReplaceFn hands on functions that walk again
-        Shortening::Weighed => true,
+        Shortening::Straight => false, // wrapped once
+        Shortening::WeighedUpstream => true,
+        Shortening::WeighedStraight => false,
     }
 }
 
@@ -35,6 +68,8 @@ pub fn weight(op: Shortening) -> usize
 {
     match op {
         Shortening::Upstream => 0,
-        Shortening::Weighed => 16777216,
+        Shortening::Straight => 0,
+        Shortening::WeighedUpstream => 16777216,
+        Shortening::WeighedStraight => 16777216,
     }
 }

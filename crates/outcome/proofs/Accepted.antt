@@ -1,9 +1,9 @@
 -- What an acceptance says of what was lent, and of what is put out. Assumes nothing.
 use mathlib.Core.Path.{_≡_, refl, ap, sym, _∙_}
 use mathlib.Core.List.{List, _++_}
-use mathlib.Core.Bool.{true, false, false≢true}
+use mathlib.Core.Bool.{Bool, true, false, false≢true}
 use mathlib.Core.Option.{none}
-use Prim.Native.Nat.{ℕ, _≤_}
+use Prim.Native.Nat.{ℕ, _*_, _≤_}
 use native.Mathlib.Omega.{arith}
 use lib.ListN.{length, drop, replicate}
 use lib.Dec.{leb, ltb}
@@ -14,16 +14,18 @@ use Rattle.answers.specs.declared.Answer.the-variants.{Shortened, ShortWork, Lo
 use Rattle.answers.specs.declared.Answer.the-variants.{TooDeep, LeftOver, FullTable, NoSpace, ShortList}
 use Rattle.answers.specs.declared.Verdict.{Verdict}
 use Rattle.answers.specs.declared.Verdict.the-variants.{Sound, Refused}
-use Rattle.wire.specs.Numbers.{Bytes}
+use Rattle.wire.specs.Numbers.{Bytes, AreBytes}
 use Rattle.records.specs.Record.{deep, tree}
 use Rattle.records.specs.Kinds.{path}
 use Rattle.records.specs.Reading.{reading}
 use Rattle.records.proofs.Run.{both}
 use Rattle.records.proofs.Faults.{fault, fair, reading-fair}
 use Rattle.rast.specs.Path.{MSel}
-use Rattle.rast.specs.Operation.{Operation}
+use Rattle.rast.specs.Operation.{Operation, upstream, shortening}
 use Rattle.rast.specs.Mod.{nameOf}
 use Rattle.rast.proofs.Tests.{by-test, by-option}
+use Rattle.size.specs.Bound.{times}
+use Rattle.size.proofs.Bound.{card-bound}
 use Rattle.outcome.specs.FullTable.{fullTable}
 use Rattle.outcome.specs.Outcome.{Outcome, isSound, goodRoot, admitted, output, afterReading, shorten}
 
@@ -79,6 +81,11 @@ refused-number op card root words a h z =
     numbered e l = omega (arith, e, l, z)
 
 -- a card that is admitted
+-- the operations admit alike
+pub admitted-alike : (again : Bool) (card root : Bytes) (words : ℕ) → admitted (shortening again) card root words ≡ admitted upstream card root words
+unfolding admitted
+admitted-alike again card root words = refl
+
 pub record Admitted (op : Operation) (card root : Bytes) (words : ℕ) : Type 0 where
   pub enough : op .fewestWords ≤ words
   pub card-length : length card ≤ op .mostCardBytes
@@ -166,3 +173,10 @@ module _ (op : Operation) (card root out : Bytes) (work : List ℕ) (n : ℕ) wh
         out-is = ap (λ (o : Outcome). o .out) e;
         work-is = ap (λ (o : Outcome). o .work) e;
       }
+
+-- and how long an output can be
+pub accepted-times : (again : Bool) (card root out : Bytes) (work : List ℕ) (n : ℕ) → AreBytes card
+    → shorten (shortening again) card root out work .answer ≡ Shortened n → n ≤ times (shortening again) * length card
+accepted-times again card root out work n b h =
+    let a = accepted (shortening again) card root out work n h in
+    rw (a .long) (card-bound again (tree root) card b (a .card-sound))

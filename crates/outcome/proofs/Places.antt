@@ -13,7 +13,7 @@ use Rattle.wire.specs.Numbers.{Bytes}
 use Rattle.records.specs.Kinds.{mod′}
 use Rattle.records.specs.Reading.{reading}
 use Rattle.records.proofs.Faults.{Within, reading-within}
-use Rattle.rast.specs.Operation.{upstream}
+use Rattle.rast.specs.Operation.{shortening}
 use Rattle.outcome.specs.Outcome.{goodRoot, admitted}
 
 -- the place of a refusal
@@ -31,10 +31,10 @@ picked m true v w p q = p
 picked m false v w p q = q refl
 
 -- it is within the longest card
-pub admitted-place : (card root : Bytes) (words : ℕ) → place (admitted upstream card root words) ≤ 32768
+pub admitted-place : (again : Bool) (card root : Bytes) (words : ℕ) → place (admitted (shortening again) card root words) ≤ 32768
 unfolding admitted
-admitted-place card root words =
+admitted-place again card root words =
     picked 32768 (ltb words 2048) _ _ (omega arith)
     (λ t. picked 32768 (ltb 32768 (length card)) _ _ (omega arith)
-    (λ l. picked 32768 (not (goodRoot upstream root)) _ _ (omega arith)
+    (λ l. picked 32768 (not (goodRoot (shortening again) root)) _ _ (omega arith)
     (λ t. let i = within-place (length card) (reading 48 mod′ card) (reading-within 48 mod′ card) in let k = ltb-false 32768 (length card) l in omega arith)))

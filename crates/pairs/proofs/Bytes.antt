@@ -3,17 +3,17 @@ use mathlib.Core.Path.{_≡_, refl}
 use mathlib.Core.List.{List, [], _∷_, map}
 use mathlib.Core.Option.{Option, none, some}
 use lib.Dec.{lit<}
-use Rattle.wire.specs.Numbers.{Bytes, sameBytes, le}
+use Rattle.wire.specs.Numbers.{Bytes, le}
 use Rattle.records.specs.Record.{encode}
 use Rattle.records.specs.Canonical.{Canonical}
-use Rattle.rast.specs.Path.{Path, «dafny_runtime», samePath, whether}
+use Rattle.rast.specs.Path.{Path, «dafny_runtime», whether}
 use Rattle.rast.specs.Final.{isAmong, finalPath}
 use Rattle.rast.proofs.Chosen.{Each, final-map}
 use Rattle.rast.proofs.Tests.{by-option}
 use Rattle.factor_paths.specs.Mapping.{equal}
 use Rattle.operation.specs.declared.Shortening.{Shortening}
-use Rattle.operation.specs.declared.Shortening.the-variants.{Upstream, Weighed}
-use Rattle.operation.specs.Operations.{operationOf, samePaths}
+use Rattle.operation.specs.Passes.{repeats}
+use Rattle.operation.specs.Operations.{passOf, operationOf, samePaths}
 use Rattle.operation.proofs.Lawful.{chooses-of}
 use Rattle.paths.proofs.Bytes.{paths-same}
 use Rattle.pairs.specs.Choice.{choice}
@@ -32,27 +32,19 @@ unfolding Canonical encode le
 runtime-canonical = (refl, lit< tt, lit< tt, ((refl, lit< tt, lit< tt, tt), ((refl, lit< tt, lit< tt), tt)))
 
 pub bases-same : (op : Shortening) (p q : Path) → Canonical p → Canonical q → samePaths op (encode p) (encode q) ≡ equal (operationOf op) p q
-bases-same Upstream p q c d = paths-same p q c d
-bases-same Weighed p q c d = paths-same p q c d
+bases-same op p q c d = paths-same (repeats (passOf op)) p q c d
 
 pub choice-none : (op : Shortening) (prefix : Bytes) → choice op prefix [] ≡ none
 unfolding choice finalPath isAmong
-choice-none Upstream prefix = refl
-choice-none Weighed prefix = refl
+choice-none op prefix = refl
 
 module _ (op : Shortening) (S : Path) (canonical : Canonical S) (bs : List Path) (each : Each Canonical bs) where
   -- the path chosen among a name's paths, as bytes
   pub choice-bytes : choice op (encode S) (map encode bs) ≡ bytesIf (operationOf op .chosenBase S bs)
   unfolding choice
-  choice-bytes = go op
-    where
-      go : (op : Shortening) → choice op (encode S) (map encode bs) ≡ bytesIf (operationOf op .chosenBase S bs)
-      go Upstream =
-          final-map (samePath sameBytes) sameBytes encode Canonical (λ a b c d. bases-same Upstream a b c d) «dafny_runtime» S bs runtime-canonical canonical
-          each
-      go Weighed =
-          final-map (samePath sameBytes) sameBytes encode Canonical (λ a b c d. bases-same Weighed a b c d) «dafny_runtime» S bs runtime-canonical canonical
-          each
+  choice-bytes =
+      final-map (equal (operationOf op)) (samePaths op) encode Canonical
+      (λ a b c d. bases-same op a b c d) «dafny_runtime» S bs runtime-canonical canonical each
 
   pub choice-canonical : CanonicalIf (operationOf op .chosenBase S bs)
   choice-canonical =

@@ -5,20 +5,18 @@ use mathlib.Core.Bool.{Bool, false, _||_, cond}
 use mathlib.Core.Option.{Option, none, some}
 use Prim.Native.Nat.{ℕ, zero, suc}
 use lib.ListN.{length, take}
-use Rattle.wire.specs.Numbers.{Bytes, sameBytes}
+use Rattle.wire.specs.Numbers.{Bytes}
 use Rattle.records.specs.Record.{recordBytes, encode}
 use Rattle.rast.specs.Path.{«dafny_runtime», whether}
 use Rattle.rast.specs.Final.{finalPath}
 use Rattle.operation.specs.declared.Shortening.{Shortening}
-use Rattle.operation.specs.declared.Shortening.the-variants.{Upstream, Weighed}
 use Rattle.operation.specs.Operations.{operationOf, samePaths}
 use Rattle.prefix.specs.Prefix.{selection}
 use Rattle.pairs.specs.Stored.{Stored, stored}
 
 -- among a name's bases, given the prefix
 unfoldable pub choice : Shortening → Bytes → List Bytes → Option Bytes
-choice Upstream prefix bases = finalPath sameBytes (encode «dafny_runtime») prefix bases
-choice Weighed prefix bases = finalPath sameBytes (encode «dafny_runtime») prefix bases
+choice op prefix bases = finalPath (samePaths op) (encode «dafny_runtime») prefix bases
 
 -- the pair that i pairs stand ahead of, and its base
 unfoldable pub pairOf : List Stored → ℕ → Option Stored

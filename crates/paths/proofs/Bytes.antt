@@ -13,17 +13,17 @@ use Rattle.wire.proofs.Numbers.{sameBytes-self, sameBytes-true}
 use Rattle.records.specs.Record.{encode}
 use Rattle.records.specs.Canonical.{Canonical}
 use Rattle.rast.specs.Path.{Path, «dafny_runtime»}
-use Rattle.rast.specs.Operation.{upstream}
+use Rattle.rast.specs.Operation.{shortening}
 use Rattle.rast.proofs.Tests.{both-ways}
 use Rattle.factor_paths.specs.Mapping.{equal}
 use Rattle.factor_paths.proofs.SameBytes.{same-bytes, bytes-same}
 
 -- paths compare as their bytes do
-pub paths-same : (p q : Path) → Canonical p → Canonical q → sameBytes (encode p) (encode q) ≡ equal upstream p q
-paths-same p q c d =
-    both-ways (sameBytes (encode p) (encode q)) (equal upstream p q)
-    (λ h. bytes-same p q c d (sameBytes-true (encode p) (encode q) h))
-    (λ h. rw (same-bytes p q h) (sameBytes-self (encode q)))
+pub paths-same : (again : Bool) (p q : Path) → Canonical p → Canonical q → sameBytes (encode p) (encode q) ≡ equal (shortening again) p q
+paths-same again p q c d =
+    both-ways (sameBytes (encode p) (encode q)) (equal (shortening again) p q)
+    (λ h. bytes-same again p q c d (sameBytes-true (encode p) (encode q) h))
+    (λ h. rw (same-bytes again p q h) (sameBytes-self (encode q)))
 
 -- the record of ::dafny_runtime, up to the name and from it on
 abbrev pub head : Bytes

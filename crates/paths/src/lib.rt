@@ -1,4 +1,4 @@
-// Paths as the bytes of their records: upstream, two paths are the same when their bytes are.
+// Paths as the bytes of their records: two paths are the same when their bytes are.
 ghost use mathlib.Core.Path.{_≡_};
 ghost use Rattle.wire.specs.Numbers.{sameBytes};
 ghost use Rattle.records.specs.Record.{encode};

@@ -1,9 +1,9 @@
 -- What an answer with a list says: of an acceptance demand 3 holds and the list is exact; a refusal leaves the list. Assumes nothing.
 use mathlib.Core.Path.{_≡_, refl, ap, ap₂, sym, subst, _∙_}
-use mathlib.Core.Bool.{false, true≢false}
+use mathlib.Core.Bool.{Bool, false, true≢false}
 use mathlib.Core.List.{List, [], _++_, append-nil}
 use mathlib.Core.Option.{some}
-use Prim.Native.Nat.{ℕ, _+_, _*_, _<_}
+use Prim.Native.Nat.{ℕ, _+_, _*_, _<_, _≤_}
 use native.Mathlib.Omega.{arith}
 use lib.ListN.{length, take, drop, length-append, length-drop}
 use lib.Seq.{take-append-seam}
@@ -17,14 +17,15 @@ use Rattle.records.specs.Kinds.{path, mod′}
 use Rattle.records.proofs.Sound.{sound-reads}
 use Rattle.records.proofs.Shape.{fits-shaped}
 use Rattle.records.proofs.Starts.{Starts, starts-there}
-use Rattle.rast.specs.Operation.{upstream}
-use Rattle.rast.proofs.Chosen.{upstream-chooses}
+use Rattle.rast.specs.Operation.{shortening}
+use Rattle.rast.proofs.Chosen.{shortening-chooses}
 use Rattle.rast.proofs.Tests.{by-test}
 use Rattle.factor_paths.specs.Apply.{apply}
 use Rattle.factor_paths.proofs.Shapes.{apply-read}
+use Rattle.size.specs.Bound.{times}
 use Rattle.size.proofs.Bound.{output-small}
 use Rattle.outcome.specs.Outcome.{Outcome, shorten}
-use Rattle.outcome.proofs.Accepted.{Accepted, accepted}
+use Rattle.outcome.proofs.Accepted.{Accepted, accepted, accepted-times}
 use Rattle.points.specs.Points.{NamesHold, outside}
 use Rattle.points.proofs.Demand.{demand-3}
 use Rattle.places.specs.Places.{Entry, entryWords, placesOf}
@@ -34,15 +35,15 @@ use Rattle.places.proofs.Exact.{exact}
 use Rattle.places.proofs.Meets.{there, child-starts}
 use Rattle.places.proofs.Words.{words-length}
 
-module _ (card root out : Bytes) (work list : List ℕ) where
+module _ (again : Bool) (card root out : Bytes) (work list : List ℕ) where
   abbrev L : Listing
-  L = shortenListing upstream card root out work list
+  L = shortenListing (shortening again) card root out work list
 
   abbrev O : Outcome
-  O = shorten upstream card root out work
+  O = shorten (shortening again) card root out work
 
   abbrev Places : List Entry
-  Places = places upstream card root out work list
+  Places = places (shortening again) card root out work list
 
   -- what is so of an acceptance
   record Accepts (n : ℕ) : Type 0 where
@@ -84,20 +85,24 @@ module _ (card root out : Bytes) (work list : List ℕ) where
 
   module _ (bc : AreBytes card) (br : AreBytes root) (n : ℕ) (h : L .answer ≡ Shortened n) where
     -- demand 3
-    pub names-hold : NamesHold upstream card root (take n (L .out))
+    pub names-hold : NamesHold (shortening again) card root (take n (L .out))
     names-hold =
         let a = accepts n h in
-        subst (λ (x : Bytes). NamesHold upstream card root (take n x)) (sym (a .out-is)) (demand-3 card root out work n bc br (a .answer))
+        subst (λ (x : Bytes). NamesHold (shortening again) card root (take n x)) (sym (a .out-is)) (demand-3 again card root out work n bc br (a .answer))
 
-    output-is : tree (take n (L .out)) ≡ apply upstream (tree root) (tree card)
+    -- how long it can be
+    pub length-most : n ≤ times (shortening again) * length card
+    length-most = accepted-times again card root out work n bc (accepts n h .answer)
+
+    output-is : tree (take n (L .out)) ≡ apply (shortening again) (tree root) (tree card)
     output-is =
         let a = accepts n h in
-        let o : Accepted upstream card root out work n = accepted upstream card root out work n (a .answer) in
+        let o : Accepted (shortening again) card root out work n = accepted (shortening again) card root out work n (a .answer) in
         let r = sound-reads 48 mod′ card bc (o .card-sound) in
         let q = sound-reads 8 path root br (o .root-sound) in
         ap tree (names-hold .defined)
-        ∙ apply-read upstream upstream-chooses (tree root) (tree card) (r .fits) (fits-shaped (tree root) path refl (q .fits))
-        (output-small (tree root) card bc (o .card-sound) (o .card-length))
+        ∙ apply-read (shortening again) (shortening-chooses again) (tree root) (tree card) (r .fits) (fits-shaped (tree root) path refl (q .fits))
+        (output-small again (tree root) card bc (o .card-sound) (o .card-length))
 
     -- what a path leads to stands in the output
     stands : (path : List ℕ) (s : Spot) → follow path (spot 0 (tree card) (tree (take n (L .out)))) ≡ some s → Starts (take n (L .out)) (s .at) (s .that)
@@ -124,7 +129,7 @@ module _ (card root out : Bytes) (work list : List ℕ) where
               ap₂ take (ap (λ (k : ℕ). 2 * k) (a .entries-are) ∙ sym (words-length Places)) (a .list-is)
               ∙ take-append-seam (entryWords Places) (drop (2 * length Places) list);
           exact = subst (Exact (spot 0 (tree card) (tree (take n (L .out))))) same
-              (exact upstream (outside upstream (tree root)) (tree card) (tree (take n (L .out))) (hold .points));
+              (exact (shortening again) (outside (shortening again) (tree root)) (tree card) (tree (take n (L .out))) (hold .points));
           there = λ path s q. starts-there (stands path s q);
           children-there = λ path s q i l. starts-there (child-there (s .at) i (s .that) l (stands path s q));
         }

@@ -16,15 +16,14 @@ use Rattle.records.specs.Record.{Record, encode, tree, deep}
 use Rattle.records.specs.Kinds.{path}
 use Rattle.records.proofs.Shape.{fits-shaped}
 use Rattle.rast.specs.Path.{MSel, whether}
-use Rattle.rast.specs.Operation.{upstream}
 use Rattle.rast.specs.Mod.{nameOf}
-use Rattle.rast.proofs.Names.{upstream-names}
-use Rattle.rast.proofs.Chosen.{upstream-chooses}
+use Rattle.rast.proofs.Names.{shortening-names}
+use Rattle.rast.proofs.Chosen.{shortening-chooses}
 use Rattle.rast.proofs.Tests.{by-test}
 use Rattle.factor_paths.specs.Apply.{apply}
-use Rattle.factor_paths.proofs.Uses.{upstream-marks}
+use Rattle.factor_paths.proofs.Uses.{shortening-marks}
 use Rattle.factor_paths.proofs.Shapes.{apply-canonical}
-use Rattle.size.proofs.Bound.{card-bound}
+use Rattle.size.proofs.Bound.{card-most}
 use Rattle.outcome.specs.FullTable.{fullTable}
 use Rattle.outcome.specs.Outcome.{admitted}
 use Rattle.outcome.proofs.Accepted.{admitted-sound}
@@ -34,9 +33,11 @@ use Rattle.places.proofs.Weighed.{weightless, weighed-length}
 use Rattle.places.proofs.Rises.{places-few}
 use Rattle.places.proofs.Words.{words-length}
 use Rattle.operation.specs.declared.Shortening.{Shortening}
-use Rattle.operation.specs.declared.Shortening.the-variants.{Upstream, Weighed}
-use Rattle.operation.specs.Operations.{weightBytes}
-use Rattle.operation.proofs.Weights.{weight-length, weight-none}
+use Rattle.operation.specs.declared.Pass.{Pass}
+use Rattle.operation.specs.Passes.{repeats, asked}
+use Rattle.operation.specs.Operations.{operationOf, plainOf, weighedOf, weightBytes}
+use Rattle.operation.proofs.Lawful.{pass-plain, pass-weighed}
+use Rattle.operation.proofs.Weights.{weight-length, weight-none, plain-weight, weighed-weight}
 use Rattle.chains.specs.Chains.{room}
 use Rattle.adding.specs.Adds.{Table, table}
 use Rattle.gathering.specs.Gathers.{span}
@@ -44,9 +45,11 @@ use Rattle.laying.specs.Lays.{lay}
 use Rattle.laying.proofs.Laws.{lay-whole}
 use Rattle.listing.specs.Lists.{cardPlaces}
 use Rattle.listing.proofs.Sound.{listing-card}
+use Rattle.measuring.specs.declared.Written.the-variants.{Full as Overfull, Length}
 use Rattle.measuring.specs.Measured.{wholeOutput}
 use Rattle.measuring.proofs.Sound.{Result as Unweighed, whole-sound}
 use Rattle.modules.specs.Modules.{moduleMade, cardMade}
+use Rattle.modules.proofs.States.{found}
 use Rattle.modules.proofs.Outermost.{Outermost, Reads, admitted-reads, outermost-is}
 use Rattle.placing.specs.declared.Placed.the-variants.{Full, NoRoom, FewWords, Done}
 use Rattle.placing.specs.Placing.{Placing, weighedMade, plainMade, countedFirst, writtenFirst, placed}
@@ -64,10 +67,10 @@ two-each n e =
     by-test (ltb n (2 * e)) (λ t. lt-ltb (n / 2) e (let l = ltb-true n (2 * e) t in omega (arith, l)) ∙ sym t)
     (λ t. le-ltb (n / 2) e (let l = ltb-false n (2 * e) t in omega (arith, l)) ∙ sym t)
 
-module _ (card root : Bytes) (n : ℕ) (sound : admitted upstream card root n ≡ Sound)
+module _ (pass : Pass) (card root : Bytes) (n : ℕ) (sound : admitted (asked pass) card root n ≡ Sound)
     (bc : (i : ℕ) → getD card i 0 < 256) (br : (i : ℕ) → getD root i 0 < 256) where
   abbrev Output : Record
-  Output = apply upstream (tree root) (tree card)
+  Output = apply (asked pass) (tree root) (tree card)
 
   abbrev pub Whole : Bytes
   Whole = encode Output
@@ -77,15 +80,22 @@ module _ (card root : Bytes) (n : ℕ) (sound : admitted upstream card root n �
 
   -- the first table with more than so many pairs
   abbrev pub FullAt : ℕ → Option ℕ
-  FullAt most = fullTable upstream most (deep (tree card)) (tree card) (MSel (tree root) (nameOf (tree card))) 0
+  FullAt most = fullTable (asked pass) most (deep (tree card)) (tree card) (MSel (tree root) (nameOf (tree card))) 0
+
+  -- the walks that weigh and that write do this pass
+  plain-sound : admitted (operationOf (plainOf pass)) card root n ≡ Sound
+  plain-sound = rw (pass-plain pass) sound
+
+  weighed-sound : admitted (operationOf (weighedOf pass)) card root n ≡ Sound
+  weighed-sound = rw (pass-weighed pass) sound
 
   reads : Reads card root 8
-  reads = admitted-reads Upstream card root n sound bc br
+  reads = admitted-reads (plainOf pass) card root n plain-sound bc br
 
   whole-small : length Whole < 2 ^ 24
   whole-small =
-      let a = admitted-sound upstream card root n sound in
-      let b = card-bound (tree root) card (are-bytes card bc) (a .card-sound) in
+      let a = admitted-sound (asked pass) card root n sound in
+      let b = card-most (repeats pass) (tree root) card (are-bytes card bc) (a .card-sound) in
       let l = a .card-length in
       omega (arith, b, l)
 
@@ -98,12 +108,13 @@ module _ (card root : Bytes) (n : ℕ) (sound : admitted upstream card root n �
   places-are =
       let e = reads .is-card .encoded in
       let s = whole-small in
-      let c = apply-canonical upstream upstream-chooses (tree root) (tree card) (reads .is-card .fits)
+      let c = apply-canonical (asked pass) (shortening-chooses (repeats pass)) (tree root) (tree card) (reads .is-card .fits)
       (fits-shaped (tree root) path refl (reads .is-root .fits)) (omega (arith, s)) in
       let l : length (encode (tree card)) ≤ 65536 = rw e (reads .small) in
       ap (λ (b : Bytes). cardPlaces b Whole) (sym e)
-      ∙ listing-card upstream _ (tree card) Output (reads .is-card .fits) (reads .is-card .canonical) c
-      (apply-point upstream upstream-names upstream-chooses upstream-marks (tree root) (tree card) (reads .is-card .fits)) (reads .is-card .shallow) l
+      ∙ listing-card (asked pass) _ (tree card) Output (reads .is-card .fits) (reads .is-card .canonical) c
+      (apply-point (asked pass) (shortening-names (repeats pass)) (shortening-chooses (repeats pass)) (shortening-marks (repeats pass)) (tree root)
+      (tree card) (reads .is-card .fits)) (reads .is-card .shallow) l
       (omega (arith, s))
 
   -- what each answer leaves
@@ -118,36 +129,41 @@ module _ (card root : Bytes) (n : ℕ) (sound : admitted upstream card root n �
     pub words-long : length (o .words) ≡ length words
 
   module _ (words : List ℕ) where
-    first : Outermost Weighed card root (room words) (table 0 words) (weighedMade card root words)
+    first : Outermost (weighedOf pass) card root (room words) (table 0 words) (weighedMade pass card root words)
     unfolding weighedMade
-    first = rw (is-module Weighed (table 0 words)) (outermost-is Weighed card root n sound bc br 65537 (table 0 words) (λ e. absurd (omega (arith, e))))
+    first =
+        rw (is-module (weighedOf pass) (table 0 words))
+        (outermost-is (weighedOf pass) card root n weighed-sound bc br 65537 (table 0 words) (λ e. absurd (omega (arith, e))))
 
     abbrev Left : List ℕ
-    Left = weighedMade card root words .held .words
+    Left = weighedMade pass card root words .held .words
 
-    second : Outermost Upstream card root (room words) (table 0 Left) (plainMade card root words)
+    second : Outermost (plainOf pass) card root (room words) (table 0 Left) (plainMade pass card root words)
     unfolding plainMade
     second =
-        rw (is-module Upstream (table 0 Left), sym (ap (λ (x : ℕ). min (x / 4) 65535) (first .long)))
-        (outermost-is Upstream card root n sound bc br 65537 (table 0 Left) (λ e. absurd (omega (arith, e))))
+        rw (is-module (plainOf pass) (table 0 Left), sym (ap (λ (x : ℕ). min (x / 4) 65535) (first .long)))
+        (outermost-is (plainOf pass) card root n plain-sound bc br 65537 (table 0 Left) (λ e. absurd (omega (arith, e))))
+
+    full-is : weighedMade pass card root words .full ≡ found (FullAt (room words))
+    full-is = rw (pass-weighed pass) at (first .full)
 
     -- where no table is full
     module _ (e : FullAt (room words) ≡ none) where
-      weighed-is : length (weighedMade card root words .bytes) ≡ length Whole + 2 ^ 24 * length Places
+      weighed-is : length (weighedMade pass card root words .bytes) ≡ length Whole + 2 ^ 24 * length Places
       weighed-is =
-          ap length (first .bytes e) ∙ weighed-length (weightBytes Weighed) 0 (tree card) Output
-          ∙ ap (λ (x : ℕ). length Whole + x * length Places) (weight-length Weighed)
+          ap length (rw (pass-weighed pass) at (first .bytes) e) ∙ weighed-length (weightBytes (weighedOf pass)) 0 (tree card) Output
+          ∙ ap (λ (x : ℕ). length Whole + x * length Places) (weight-length (weighedOf pass) ∙ weighed-weight pass)
 
-      plain-is : plainMade card root words .bytes ≡ Whole
-      plain-is = second .bytes e ∙ rw (weight-none Upstream refl) (weightless (tree card) Output)
+      plain-is : plainMade pass card root words .bytes ≡ Whole
+      plain-is = rw (pass-plain pass) at (second .bytes) e ∙ rw (weight-none (plainOf pass) (plain-weight pass)) (weightless (tree card) Output)
 
-      length-is : length (weighedMade card root words .bytes) % 2 ^ 24 ≡ length Whole
+      length-is : length (weighedMade pass card root words .bytes) % 2 ^ 24 ≡ length Whole
       length-is = ap (λ (x : ℕ). x % 2 ^ 24) weighed-is ∙ apart-length (length Whole) (length Places) whole-small
 
-      entries-are : length (weighedMade card root words .bytes) / 2 ^ 24 ≡ length Places
+      entries-are : length (weighedMade pass card root words .bytes) / 2 ^ 24 ≡ length Places
       entries-are = ap (λ (x : ℕ). x / 2 ^ 24) weighed-is ∙ apart-entries (length Whole) (length Places) whole-small
 
-    counted-sound : (list : List ℕ) (out : Bytes) → Result words list out (countedFirst card root words list out)
+    counted-sound : (list : List ℕ) (out : Bytes) → Result words list out (countedFirst pass card root words list out)
     unfolding countedFirst
     counted-sound list out = go (FullAt (room words)) refl
       where
@@ -161,9 +177,9 @@ module _ (card root : Bytes) (n : ℕ) (sound : admitted upstream card root n �
             ∙ lay-whole list (entryWords Places) (omega (arith, x, k))
             ∙ ap (λ (m : ℕ). entryWords Places ++ drop m list) x
 
-        go : (o : Option ℕ) → FullAt (room words) ≡ o → Result words list out (countedFirst card root words list out)
+        go : (o : Option ℕ) → FullAt (room words) ≡ o → Result words list out (countedFirst pass card root words list out)
         go none e =
-            let zero-full : weighedMade card root words .full ≡ 0 = first .full ∙ ap (λ (x : Option ℕ). whether x 0 suc) e in
+            let zero-full : weighedMade pass card root words .full ≡ 0 = full-is ∙ ap (λ (x : Option ℕ). whether x 0 suc) e in
             by-test (ltb (length out) (length Whole))
             (λ t. rw (zero-full, length-is e, t) (record { answer-is = rw (e, t); out-is = rw (e, t); list-is = rw (e, t); words-long = first .long }))
             (λ t. by-test (ltb (length list) (2 * length Places))
@@ -177,7 +193,7 @@ module _ (card root : Bytes) (n : ℕ) (sound : admitted upstream card root n �
               words-long = second .long ∙ first .long;
             })))
         go (some place) e =
-            let some-full : weighedMade card root words .full ≡ suc place = first .full ∙ ap (λ (x : Option ℕ). whether x 0 suc) e in
+            let some-full : weighedMade pass card root words .full ≡ suc place = full-is ∙ ap (λ (x : Option ℕ). whether x 0 suc) e in
             let less : suc place - 1 ≡ place = omega arith in
             rw (some-full, lt-ltb 0 (suc place) (omega arith), less)
             (record { answer-is = rw e; out-is = rw e; list-is = rw e; words-long = first .long })
@@ -186,28 +202,35 @@ module _ (card root : Bytes) (n : ℕ) (sound : admitted upstream card root n �
     room-same : (out : Bytes) → length Whole ≤ length out → length (Whole ++ drop (length Whole) out) ≡ length out
     room-same out l = let a = length-append Whole (drop (length Whole) out) in let b = length-drop (length Whole) out in omega (arith, l, a, b)
 
-    first-sound : (list : List ℕ) (out : Bytes) → length out / 3 ≤ length list → Result words list out (writtenFirst card root words list out)
+    first-sound : (list : List ℕ) (out : Bytes) → length out / 3 ≤ length list → Result words list out (writtenFirst pass card root words list out)
     unfolding writtenFirst
     first-sound list out k = go (FullAt (room words)) refl
       where
-        written : Unweighed Upstream card root n sound bc br words out (wholeOutput Upstream card root words out)
-        written = whole-sound Upstream card root n sound bc br refl words out
+        written : Unweighed (plainOf pass) card root n plain-sound bc br words out (wholeOutput (plainOf pass) card root words out)
+        written = whole-sound (plainOf pass) card root n plain-sound bc br (plain-weight pass) words out
 
-        go : (o : Option ℕ) → FullAt (room words) ≡ o → Result words list out (writtenFirst card root words list out)
+        answer-is : wholeOutput (plainOf pass) card root words out .answer ≡ whether (FullAt (room words)) (Length (length Whole)) Overfull
+        answer-is = rw (pass-plain pass) at (written .answer-is)
+
+        out-is : wholeOutput (plainOf pass) card root words out .out
+            ≡ whether (FullAt (room words)) (cond (ltb (length out) (length Whole)) out (Whole ++ drop (length Whole) out)) (λ place. out)
+        out-is = rw (pass-plain pass) at (written .out-is)
+
+        go : (o : Option ℕ) → FullAt (room words) ≡ o → Result words list out (writtenFirst pass card root words list out)
         go (some place) e =
-            rw (written .answer-is, written .out-is, e)
+            rw (answer-is, out-is, e)
             (record { answer-is = rw e; out-is = rw e; list-is = rw e; words-long = written .words-long })
         go none e =
             by-test (ltb (length out) (length Whole))
-            (λ t. rw (written .answer-is, written .out-is, e, t, t)
+            (λ t. rw (answer-is, out-is, e, t, t)
             (record { answer-is = rw (e, t); out-is = rw (e, t); list-is = rw (e, t); words-long = written .words-long }))
             (λ t. let l = ltb-false (length out) (length Whole) t in
             let f = places-few 0 (tree card) Output in
             let u : ltb (length list) (2 * length Places) ≡ false = le-ltb (length list) (2 * length Places) (omega (arith, l, f, k)) in
             let x = words-length Places in
             rw (
-              written .answer-is,
-              written .out-is,
+              answer-is,
+              out-is,
               e,
               t,
               room-same out l,
@@ -220,7 +243,7 @@ module _ (card root : Bytes) (n : ℕ) (sound : admitted upstream card root n �
             (record { answer-is = rw (e, t, u); out-is = rw (e, t, u); list-is = rw (e, t, u); words-long = written .words-long }))
 
     -- THE LAW
-    pub placed-sound : (list : List ℕ) (out : Bytes) → Result words list out (placed card root words list out)
+    pub placed-sound : (list : List ℕ) (out : Bytes) → Result words list out (placed pass card root words list out)
     unfolding placed
     placed-sound list out =
         by-test (leb (length out / 3) (length list))

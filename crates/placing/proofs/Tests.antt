@@ -9,7 +9,9 @@ use borrow.Author.Tests.{lt-ltb, le-ltb, le-leb, lt-leb}
 use Rattle.rast.proofs.Tests.{by-test}
 use Rattle.wire.specs.Numbers.{Bytes}
 use Rattle.places.specs.Places.{entryWords}
-use Rattle.operation.specs.declared.Shortening.the-variants.{Upstream, Weighed}
+use Rattle.operation.specs.declared.Pass.{Pass}
+use Rattle.operation.specs.declared.Shortening.{Shortening}
+use Rattle.operation.specs.Operations.{plainOf, weighedOf}
 use Rattle.adding.specs.Adds.{Table, table}
 use Rattle.laying.specs.Lays.{lay, Laid}
 use Rattle.laying.proofs.Laws.{lay-length}
@@ -29,21 +31,22 @@ none-laid : (b : Bytes) → lay [] 0 b ≡ []
 unfolding lay
 none-laid b = refl
 
-pub measured : (card root : Bytes) (words : List ℕ) (out : Bytes) {part : Bytes} {words₁ : List ℕ} {len full owner pairs : ℕ}
-    → Wrote [] part words₁ len full owner pairs (cardMade Weighed card root 65537 (table 0 words)) → (t : Tally)
+pub measured : (pass : Pass) (op : Shortening) → op ≡ weighedOf pass → (card root : Bytes) (words : List ℕ)
+    (out : Bytes) {part : Bytes} {words₁ : List ℕ} {len full owner pairs : ℕ}
+    → Wrote [] part words₁ len full owner pairs (cardMade op card root 65537 (table 0 words)) → (t : Tally)
     → t ≡ record { full = full; length = len % 2 ^ 24; entries = len / 2 ^ 24 }
-    → (t ≡ tallyOf (weighedMade card root words)) × (part ++ drop 0 out ≡ out) × (words₁ ≡ weighedMade card root words .held .words)
+    → (t ≡ tallyOf (weighedMade pass card root words)) × (part ++ drop 0 out ≡ out) × (words₁ ≡ weighedMade pass card root words .held .words)
 unfolding weighedMade
-measured card root words out w t e = (
-  e ∙ rw (w .full-is, w .length-is),
+measured pass op p card root words out w t e = (
+  e ∙ rw (w .full-is, w .length-is, p),
   ap (λ (x : Bytes). x ++ out) (w .laid ∙ none-laid _),
-  ap (λ (x : Table). x .words) (w .held-is),
+  ap (λ (x : Table). x .words) (w .held-is) ∙ rw p,
 )
 
-module _ (card root : Bytes) (words list : List ℕ) (out : Bytes) {t : Tally} {out₁ : Bytes} {words₁ : List ℕ}
-    (m : (t ≡ tallyOf (weighedMade card root words)) × (out₁ ≡ out) × (words₁ ≡ weighedMade card root words .held .words)) where
+module _ (pass : Pass) (card root : Bytes) (words list : List ℕ) (out : Bytes) {t : Tally} {out₁ : Bytes} {words₁ : List ℕ}
+    (m : (t ≡ tallyOf (weighedMade pass card root words)) × (out₁ ≡ out) × (words₁ ≡ weighedMade pass card root words .held .words)) where
   abbrev M : Made
-  M = weighedMade card root words
+  M = weighedMade pass card root words
 
   full-is : t .full ≡ M .full
   full-is = ap (λ (x : Tally). x .full) (m .0)
@@ -54,19 +57,19 @@ module _ (card root : Bytes) (words list : List ℕ) (out : Bytes) {t : Tally} {
   entries-are : t .entries ≡ length (M .bytes) / 2 ^ 24
   entries-are = ap (λ (x : Tally). x .entries) (m .0)
 
-  pub full-gives : 0 < t .full → placing (Full (t .full - 1)) out₁ words₁ list ≡ countedFirst card root words list out
+  pub full-gives : 0 < t .full → placing (Full (t .full - 1)) out₁ words₁ list ≡ countedFirst pass card root words list out
   unfolding countedFirst
   full-gives h = rw (m .1, m .2, full-is) (rw (lt-ltb 0 (M .full) (rw full-is at h)))
 
   module _ (z : t .full ≤ 0) where
-    pub no-room-gives : length out₁ < t .length → placing NoRoom out₁ words₁ list ≡ countedFirst card root words list out
+    pub no-room-gives : length out₁ < t .length → placing NoRoom out₁ words₁ list ≡ countedFirst pass card root words list out
     unfolding countedFirst
     no-room-gives h =
         rw (m .1, m .2)
         (rw (le-ltb 0 (M .full) (rw full-is at z), lt-ltb (length out) (length (M .bytes) % 2 ^ 24) (rw (m .1, length-is) at h)))
 
     module _ (l : t .length ≤ length out₁) where
-      pub few-words-gives : length list / 2 < t .entries → placing FewWords out₁ words₁ list ≡ countedFirst card root words list out
+      pub few-words-gives : length list / 2 < t .entries → placing FewWords out₁ words₁ list ≡ countedFirst pass card root words list out
       unfolding countedFirst
       few-words-gives h =
           rw (m .1, m .2)
@@ -77,18 +80,18 @@ module _ (card root : Bytes) (words list : List ℕ) (out : Bytes) {t : Tally} {
           ))
 
       -- written, and then listed
-      module _ {after : Bytes} {words₂ : List ℕ} {len full owner pairs : ℕ}
-          (w : Wrote out₁ after words₂ len full owner pairs (cardMade Upstream card root 65537 (table 0 words₁))) where
+      module _ (op : Shortening) (p : op ≡ plainOf pass) {after : Bytes} {words₂ : List ℕ} {len full owner pairs : ℕ}
+          (w : Wrote out₁ after words₂ len full owner pairs (cardMade op card root 65537 (table 0 words₁))) where
         pub written-long : length after ≡ length out₁
         written-long = ap length (w .laid) ∙ lay-length out₁ 0 _
 
-        made-is : cardMade Upstream card root 65537 (table 0 words₁) ≡ plainMade card root words
+        made-is : cardMade op card root 65537 (table 0 words₁) ≡ plainMade pass card root words
         unfolding plainMade
-        made-is = rw (m .2)
+        made-is = rw (p, m .2)
 
         pub done-gives : t .entries ≤ length list / 2 → {list₂ : List ℕ} {e : ℕ}
             → Laid list 0 (entryWords (cardPlaces card (take (t .length) after))) e list₂
-            → placing (Done (t .length) (t .entries)) after words₂ list₂ ≡ countedFirst card root words list out
+            → placing (Done (t .length) (t .entries)) after words₂ list₂ ≡ countedFirst pass card root words list out
         unfolding countedFirst
         done-gives h x =
             rw (x .bytes, w .laid, ap (λ (y : Table). y .words) (w .held-is), made-is, m .1, length-is, entries-are)
@@ -124,16 +127,17 @@ listed-words card out words list w r list′ e = ap (λ (x : Placing). placing (
     same (Overfull place) = refl
     same (Length n) = by-test (ltb (length out) n) (λ t. rw t) (λ t. rw t)
 
-module _ (card root out : Bytes) (words list : List ℕ) where
-  pub first-gives : length out / 3 ≤ length list → {w : Written} {out′ : Bytes} {words′ : List ℕ}
-      → output w out′ words′ ≡ wholeOutput Upstream card root words out
+module _ (pass : Pass) (card root out : Bytes) (words list : List ℕ) where
+  pub first-gives : (op : Shortening) → op ≡ plainOf pass → length out / 3 ≤ length list → {w : Written} {out′ : Bytes} {words′ : List ℕ}
+      → output w out′ words′ ≡ wholeOutput op card root words out
       → {r : Placed} {list′ : List ℕ} → placing r out′ [] list′ ≡ listedAfter card w out′ [] list
-      → placing r out′ words′ list′ ≡ placed card root words list out
+      → placing r out′ words′ list′ ≡ placed pass card root words list out
   unfolding placed writtenFirst
-  first-gives l {w} {out′} {words′} o {r} {list′} x =
+  first-gives op p l {w} {out′} {words′} o {r} {list′} x =
       rw (le-leb (length out / 3) (length list) l)
-      (listed-words card out′ words′ list w r list′ x ∙ ap (λ (y : Output). listedAfter card (y .answer) (y .out) (y .words) list) o)
+      (listed-words card out′ words′ list w r list′ x ∙ ap (λ (y : Output). listedAfter card (y .answer) (y .out) (y .words) list)
+      (o ∙ ap (λ (q : Shortening). wholeOutput q card root words out) p))
 
-  pub counted-gives : length list < length out / 3 → {o : Placing} → o ≡ countedFirst card root words list out → o ≡ placed card root words list out
+  pub counted-gives : length list < length out / 3 → {o : Placing} → o ≡ countedFirst pass card root words list out → o ≡ placed pass card root words list out
   unfolding placed
   counted-gives l e = e ∙ rw (lt-leb (length out / 3) (length list) l)

@@ -7,7 +7,8 @@ use Prim.Native.Nat.{ℕ, _-_, _/_, _%_, _^_}
 use lib.ListN.{length, take}
 use lib.Dec.{leb, ltb}
 use Rattle.wire.specs.Numbers.{Bytes}
-use Rattle.operation.specs.declared.Shortening.the-variants.{Upstream, Weighed}
+use Rattle.operation.specs.declared.Pass.{Pass}
+use Rattle.operation.specs.Operations.{plainOf, weighedOf}
 use Rattle.adding.specs.Adds.{table}
 use Rattle.laying.specs.Lays.{lay}
 use Rattle.places.specs.Places.{Entry, entryWords}
@@ -41,13 +42,13 @@ listedAfter card (Length n) out words list =
     let es : List Entry = cardPlaces card (take n out) in
     cond (ltb (length out) n) (placing NoRoom out words list) (placing (Done n (length es)) out words (lay list 0 (entryWords es)))
 
-module _ (card root : Bytes) where
+module _ (pass : Pass) (card root : Bytes) where
   unfoldable pub weighedMade : List ℕ → Made
-  weighedMade words = cardMade Weighed card root 65537 (table 0 words)
+  weighedMade words = cardMade (weighedOf pass) card root 65537 (table 0 words)
 
-  -- the output itself, by words that hold no table of this operation
+  -- the output itself, by words that hold no table
   unfoldable pub plainMade : List ℕ → Made
-  plainMade words = cardMade Upstream card root 65537 (table 0 (weighedMade words .held .words))
+  plainMade words = cardMade (plainOf pass) card root 65537 (table 0 (weighedMade words .held .words))
 
   unfoldable pub countedFirst : (words list : List ℕ) → Bytes → Placing
   countedFirst words list out =
@@ -62,7 +63,7 @@ module _ (card root : Bytes) where
 
   unfoldable pub writtenFirst : (words list : List ℕ) → Bytes → Placing
   writtenFirst words list out =
-      let o : Output = wholeOutput Upstream card root words out in
+      let o : Output = wholeOutput (plainOf pass) card root words out in
       listedAfter card (o .answer) (o .out) (o .words) list
 
   unfoldable pub placed : (words list : List ℕ) → Bytes → Placing

@@ -1,8 +1,8 @@
 // The output with the list of its changed points. Where the list surely suffices, the output is written and then listed. Else the walk that writes measures
-// first, over an empty part of the out buffer, by the operation that gives each changed point a weight: its length says how long the output is and how many
+// first, over an empty part of the out buffer, by the pass that gives each changed point a weight: its length says how long the output is and how many
 // entries there are. The list is filled once the output is written.
 use measuring::Written;
-use operation::Shortening;
+use operation::Pass;
 ghost use mathlib.Core.Path.{_≡_};
 ghost use mathlib.Core.List.{[]};
 ghost use Rattle.placing.specs.Placing.{tallyOf, weighedMade, placing, countedFirst, listedAfter, placed};
@@ -25,12 +25,12 @@ pub enum Placed {
 }
 
 // Leaves the out buffer.
-fn measure(card: &[u8], root: &[u8], out: &mut [u8], work: &mut [u32]) -> Tally
-    ensures { λ r. ⌜ (r ≡ tallyOf (weighedMade (now (card .entry)) (now (root .entry)) (now (work .entry)))) × (now (out .exit) ≡ now (out .entry))
-        × (now (work .exit) ≡ weighedMade (now (card .entry)) (now (root .entry)) (now (work .entry)) .held .words) ⌝ }
+fn measure(pass: Pass, card: &[u8], root: &[u8], out: &mut [u8], work: &mut [u32]) -> Tally
+    ensures { λ r. ⌜ (r ≡ tallyOf (weighedMade pass (now (card .entry)) (now (root .entry)) (now (work .entry)))) × (now (out .exit) ≡ now (out .entry))
+        × (now (work .exit) ≡ weighedMade pass (now (card .entry)) (now (root .entry)) (now (work .entry)) .held .words) ⌝ }
 {
     let m = writing::write_card(
-        Shortening::Weighed,
+        operation::weighed(pass),
         card,
         root,
         &mut out[..0],
@@ -47,6 +47,7 @@ fn measure(card: &[u8], root: &[u8], out: &mut [u8], work: &mut [u32]) -> Tally
 }
 
 fn count_first(
+    pass: Pass,
     card: &[u8],
     root: &[u8],
     out: &mut [u8],
@@ -54,9 +55,9 @@ fn count_first(
     list: &mut [u32],
 ) -> Placed
     ensures { λ r. ⌜ placing r (now (out .exit)) (now (work .exit)) (now (list .exit))
-        ≡ countedFirst (now (card .entry)) (now (root .entry)) (now (work .entry)) (now (list .entry)) (now (out .entry)) ⌝ }
+        ≡ countedFirst pass (now (card .entry)) (now (root .entry)) (now (work .entry)) (now (list .entry)) (now (out .entry)) ⌝ }
 {
-    let t = measure(card, root, out, work);
+    let t = measure(pass, card, root, out, work);
     let full = t.full;
     if 0 < full {
         return Placed::Full(full - 1);
@@ -69,7 +70,7 @@ fn count_first(
     if list.len() / 2 < k {
         return Placed::FewWords;
     }
-    writing::write_card(Shortening::Upstream, card, root, out, work, 65537, 0);
+    writing::write_card(operation::plain(pass), card, root, out, work, 65537, 0);
     listing::list_places(card, &out[..n], list);
     Placed::Done(n, k)
 }
@@ -91,6 +92,7 @@ fn list_after(w: Written, card: &[u8], out: &[u8], list: &mut [u32]) -> Placed
 }
 
 pub fn write_places(
+    pass: Pass,
     card: &[u8],
     root: &[u8],
     out: &mut [u8],
@@ -98,11 +100,11 @@ pub fn write_places(
     list: &mut [u32],
 ) -> Placed
     ensures { λ r. ⌜ placing r (now (out .exit)) (now (work .exit)) (now (list .exit))
-        ≡ placed (now (card .entry)) (now (root .entry)) (now (work .entry)) (now (list .entry)) (now (out .entry)) ⌝ }
+        ≡ placed pass (now (card .entry)) (now (root .entry)) (now (work .entry)) (now (list .entry)) (now (out .entry)) ⌝ }
 {
     if out.len() / 3 <= list.len() {
-        let w = measuring::write(Shortening::Upstream, card, root, out, work);
+        let w = measuring::write(operation::plain(pass), card, root, out, work);
         return list_after(w, card, out, list);
     }
-    count_first(card, root, out, work, list)
+    count_first(pass, card, root, out, work, list)
 }

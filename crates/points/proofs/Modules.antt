@@ -93,7 +93,8 @@ module _ (op : Operation) (N : Names op) (C : Chooses op) (alike : Marks op) whe
     decl-point d f le =
         by-test (is 0x62 d)
         (λ e. nested-point d (at-one d 0x62 0x6A f e) le)
-        (λ e. rw e (walk-point op N alike m p (nested op p) d false 0 (fits-of declKind decls-closed d (kinds 0x63 0x6A) refl (after-one d 0x62 0x6A f e))
+        (λ e. rw e (walk-point op N alike m p (nested op p) d false 0 (λ z. (refl, refl))
+        (fits-of declKind decls-closed d (kinds 0x63 0x6A) refl (after-one d 0x62 0x6A f e))
         (fits-paths d (kinds 0x62 0x6A) f)))
 
     decls-point : (c : Records) → FitsAll c (any (kinds 0x62 0x6A)) → deepAll c ≤ n → Points op M c (mapAll declared c)

@@ -8,7 +8,7 @@ use lib.ListN.{getD}
 use Rattle.wire.specs.Numbers.{sameBytes}
 use Rattle.records.specs.Record.{Record, Records, leaf, node, nil, _▸_, _▸▸_, kind, text, nth, field, setNth, count, skip, first, FoldLeft}
 use Rattle.rast.specs.Path.{Name, Path, Global, MSel, samePath}
-use Rattle.rast.specs.Operation.{upstream}
+use Rattle.rast.specs.Operation.{Operation, upstream, straight}
 use Rattle.rast.specs.Mod.{Mod·Fold}
 use Rattle.rast.specs.Fold.{Fold}
 use Rattle.rast.specs.Visitor.{VisitType, VisitTypeParams, VisitBody, VisitImplMapping, VisitStructMapping, VisitModMapping, VisitMod}
@@ -54,13 +54,13 @@ abbrev uses : Records
 uses = useDecl (MSel Global B) ▸ nil
 
 -- every point of an output of the card, whose root is crate
-unfoldable Holds : Record → Type 0
+unfoldable Holds : Operation → Record → Type 0
 unfolding Point UseDecls synonyms unmarkedAll namesBorne lookUp has different sameBytes nth setNth _▸▸_ count skip first FoldLeft samePath Mod·Fold Fold
     VisitType VisitTypeParams VisitBody VisitImplMapping VisitStructMapping VisitModMapping VisitMod get set Add VisitTypeSingle VisitModDeclSingle mappings
-Holds that = Point upstream (outside upstream (node 0x11 nil)) card that
+Holds op that = Point op (outside op (node 0x11 nil)) card that
 
 abbrev Refuted : Record → Type 0
-Refuted that = Holds that → ⊥
+Refuted that = Holds upstream that → ⊥
 
 -- ::B is short, and no use bears its name, or one of another path does; s is the point of the impl's type
 no-use : Refuted (made nil (decl 0x63 X) (short (MSel Global B)))
@@ -87,6 +87,14 @@ unfolding Holds
 other-base h =
     let s = h .2 .1 .1 .1 .0 .1 .1 .0 .1 .0 .1 .1 .0 in
     no-base (s .name) (s .more) (ap (field 1) (s .wrapped))
+
+-- straight, it is wrapped twice
+wrapped-twice : Holds straight (made uses (decl 0x63 X) (TSynonym (TIdentifier B) (short (MSel Global B)))) → ⊥
+unfolding Holds
+wrapped-twice h =
+    let s = h .2 .1 .1 .1 .0 .1 .1 .0 .1 .0 .1 .1 .0 in
+    let e = ap (λ r. kind (field 1 r)) (rw (s .once refl) at (s .wrapped)) in
+    omega arith
 
 -- two uses bear one name, or one bears a declaration's
 name-twice : Refuted (made (uses ▸▸ (useDecl (MSel (MSel Global X) B) ▸ nil)) (decl 0x63 X) (short (MSel Global B)))

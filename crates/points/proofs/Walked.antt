@@ -1,9 +1,9 @@
 -- The points of a declaration that is walked: where a name is shortened it is found, and every other point holds what it held. Assumes nothing.
 use mathlib.Core.Path.{_≡_, refl, ap, sym, subst, _∙_}
-use mathlib.Core.Bool.{Bool, true, false, _||_, false≢true}
+use mathlib.Core.Bool.{Bool, true, false, _||_, _&&_, and-false, false≢true}
 use mathlib.Core.Option.{none, some, Option·some-injective, Option·none-ne-some}
 use Prim.Native.Nat.{ℕ, suc}
-use lib.Dec.{eqb}
+use lib.Dec.{eqb, leb}
 use borrow.Author.Tests.{eqb-true}
 use Rattle.records.specs.Record.{Record, Records, leaf, node, nil, _▸_, text, nth, setNth, field, is}
 use Rattle.records.proofs.Closed.{Of, OfAll}
@@ -71,12 +71,28 @@ module _ (op : Operation) (N : Names op) (alike : Marks op) (m : Record) (p : Pa
   abbrev rep : FinalReplacement
   rep = pathsToRemove op m p
 
+  -- where a Fn's types are not walked again, none counts and every one is wrapped once
+  abbrev Once : Bool → ℕ → Type 0
+  Once a w = op .walksAgain ≡ false → (a ≡ false) × (w ≡ 0)
+
+  once-deeper : (a : Bool) (w : ℕ) → Once a w → Once a (deeper a w)
+  once-deeper a w o z = let q = o z in (q .0, ap (λ (b : Bool). deeper b w) (q .0) ∙ q .1)
+
+  once-field : (b : Bool) → Once (b && op .walksAgain) 0
+  once-field b z = (ap (λ (c : Bool). b && c) z ∙ and-false b, refl)
+
   -- a shortened type
   short-type : (c : Records) (h : PathIn c) (v : Selected) → selected 0x2D (node 0x2D c) ≡ some v → replaces op rep (v .name) (v .base) ≡ true → (w : ℕ)
-      → Point op M (node 0x2D c) (synonyms (v .name) (suc w) (node 0x2D c))
+      → (op .walksAgain ≡ false → w ≡ 0) → Point op M (node 0x2D c) (synonyms (v .name) (suc w) (node 0x2D c))
   unfolding Point synonyms
-  short-type c h v e r w =
-      record { name = v .name; more = w; wrapped = refl; finds = λ u. rw (selected-path 0x2D refl c h v e) (looks-up op N m p (v .name) (v .base) r) }
+  short-type c h v e r w o =
+      record {
+        name = v .name;
+        more = w;
+        wrapped = refl;
+        once = o;
+        finds = λ u. rw (selected-path 0x2D refl c h v e) (looks-up op N m p (v .name) (v .base) r);
+      }
 
   -- a shortened expression: by its whole name, or without its mark
   short-whole : (c : Records) (h : PathIn c) (v : Selected) → selected 0x5C (node 0x5C c) ≡ some v → replaces op rep (v .name) (v .base) ≡ true
@@ -101,13 +117,14 @@ module _ (op : Operation) (N : Names op) (alike : Marks op) (m : Record) (p : Pa
       }
 
   -- a path type that is wrapped or left
-  type-point : (c : Records) → PathIn c → OfAll declKind c → (w : ℕ) → Point op M (node 0x2D c) (wrap op rep (suc w) (node 0x2D c))
+  type-point : (c : Records) → PathIn c → OfAll declKind c → (w : ℕ) → (op .walksAgain ≡ false → w ≡ 0)
+      → Point op M (node 0x2D c) (wrap op rep (suc w) (node 0x2D c))
   unfolding wrap
-  type-point c h o w =
+  type-point c h o w once =
       by-option (selected 0x2D (node 0x2D c))
       (λ e. rw e (same-node op M 0x2D c c refl (points-self op M c o)))
       (λ v e. rw e (by-test (replaces op rep (v .name) (v .base))
-      (λ r. rw r (short-type c h v e r w))
+      (λ r. rw r (short-type c h v e r w once))
       (λ r. rw r (same-node op M 0x2D c c refl (points-self op M c o)))))
 
   -- a path expression that is named or left
@@ -125,39 +142,39 @@ module _ (op : Operation) (N : Names op) (alike : Marks op) (m : Record) (p : Pa
       (λ t. rw t (same-node op M 0x5C c c refl (points-self op M c o)))))))
 
   -- one record, given the points of what it holds
-  step-point : (a : Bool) (w k : ℕ) (c : Records) (s : Step) → declKind k ≡ true → OfAll declKind c → (eqb k 0x2D || eqb k 0x5C ≡ true → PathIn c) →
+  step-point : (a : Bool) (w k : ℕ) (c : Records) (s : Step) → Once a w → declKind k ≡ true → OfAll declKind c → (eqb k 0x2D || eqb k 0x5C ≡ true → PathIn c) →
       Points op M c (walkAll op rep a (suc (deeper a w)) c) → Points op M c (walkAll op rep a (suc w) c) → Points op M c (walkFn op rep 0 c) →
       Point op M (node k c) (stepped op rep s (suc w) (node k c) (node k (walkAll op rep a (suc (deeper a w)) c)) (node k (walkAll op rep a (suc w) c))
       (node k (walkFn op rep 0 c)))
-  step-point a w k c aType d o h deep same fn =
+  step-point a w k c aType once d o h deep same fn =
       by-test (eqb k 0x2D)
       (λ e. rw (paths-walked op rep a (suc (deeper a w)) c (h (or-left (eqb k 0x2D) (eqb k 0x5C) e)), eqb-true k 0x2D e)
-      (type-point c (h (or-left (eqb k 0x2D) (eqb k 0x5C) e)) o w))
+      (type-point c (h (or-left (eqb k 0x2D) (eqb k 0x5C) e)) o w (λ z. once z .1)))
       (λ e. rw (wrap-other op rep (suc w) k (walkAll op rep a (suc (deeper a w)) c) e) (same-node op M k c _ (no-module k d) deep))
-  step-point a w k c anExpr d o h deep same fn =
+  step-point a w k c anExpr once d o h deep same fn =
       by-test (eqb k 0x5C)
       (λ e. rw (paths-walked op rep a (suc (deeper a w)) c (h (or-right (eqb k 0x2D) (eqb k 0x5C) e)), eqb-true k 0x5C e)
       (expr-point c (h (or-right (eqb k 0x2D) (eqb k 0x5C) e)) o))
       (λ e. rw (expr-other op rep k (walkAll op rep a (suc (deeper a w)) c) e) (same-node op M k c _ (no-module k d) deep))
-  step-point a w k c aFn d o h deep same fn = same-node op M k c _ (no-module k d) fn
-  step-point a w k c left d o h deep same fn = same-node op M k c c (no-module k d) (points-self op M c o)
-  step-point a w k c holds d o h deep same fn = same-node op M k c _ (no-module k d) same
+  step-point a w k c aFn once d o h deep same fn = same-node op M k c _ (no-module k d) fn
+  step-point a w k c left once d o h deep same fn = same-node op M k c c (no-module k d) (points-self op M c o)
+  step-point a w k c holds once d o h deep same fn = same-node op M k c _ (no-module k d) same
 
   -- THE LAW: every point of a declaration that is walked, with a count of at least 1
   mutual
     unfolding walk Of Paths Points
 
-    pub walk-point : (r : Record) (a : Bool) (w : ℕ) → Of declKind r → Paths r → Point op M r (walk op rep a (suc w) r)
-    walk-point (leaf k b) a w o p = (refl, refl)
-    walk-point (node k c) a w o p =
+    pub walk-point : (r : Record) (a : Bool) (w : ℕ) → Once a w → Of declKind r → Paths r → Point op M r (walk op rep a (suc w) r)
+    walk-point (leaf k b) a w once o p = (refl, refl)
+    walk-point (node k c) a w once o p =
         rw (← deeper-suc a w)
-        (step-point a w k c (stepOf k) (o .0) (o .1) (p .0) (walk-points c a (deeper a w) (o .1) (p .1)) (walk-points c a w (o .1) (p .1))
-        (fn-points c 0 (o .1) (p .1)))
+        (step-point a w k c (stepOf k) once (o .0) (o .1) (p .0) (walk-points c a (deeper a w) (once-deeper a w once) (o .1) (p .1))
+        (walk-points c a w once (o .1) (p .1)) (fn-points c 0 (o .1) (p .1)))
 
-    pub walk-points : (c : Records) (a : Bool) (w : ℕ) → OfAll declKind c → PathsAll c → Points op M c (walkAll op rep a (suc w) c)
-    walk-points nil a w o p = tt
-    walk-points (r ▸ c) a w o p = (walk-point r a w (o .0) (p .0), walk-points c a w (o .1) (p .1))
+    pub walk-points : (c : Records) (a : Bool) (w : ℕ) → Once a w → OfAll declKind c → PathsAll c → Points op M c (walkAll op rep a (suc w) c)
+    walk-points nil a w once o p = tt
+    walk-points (r ▸ c) a w once o p = (walk-point r a w once (o .0) (p .0), walk-points c a w once (o .1) (p .1))
 
     fn-points : (c : Records) (i : ℕ) → OfAll declKind c → PathsAll c → Points op M c (walkFn op rep i c)
     fn-points nil i o p = tt
-    fn-points (r ▸ c) i o p = (walk-point r _ 0 (o .0) (p .0), fn-points c (suc i) (o .1) (p .1))
+    fn-points (r ▸ c) i o p = (walk-point r _ 0 (once-field (leb 2 i)) (o .0) (p .0), fn-points c (suc i) (o .1) (p .1))

@@ -1,7 +1,7 @@
 -- 01, "Points and looking up", its first paragraph, and demand 3. Assumes nothing: these are definitions.
 use mathlib.Core.Path.{_≡_}
 use mathlib.Core.List.{List, []}
-use mathlib.Core.Bool.{true, _&&_, cond}
+use mathlib.Core.Bool.{true, false, _&&_, cond}
 use Prim.Native.Nat.{ℕ, suc, _-_}
 use lib.ListN.{take}
 use lib.Dec.{eqb}
@@ -42,7 +42,7 @@ meeting k j =
     (cond (eqb k 0x60) module′ elsewhere))
 
 module _ (op : Operation) where
-  -- looking the name up in module m gives the path, if no name that m collects ends in '!'; upstream, two paths are equal when their bytes are
+  -- looking the name up in module m gives the path, if no name that m collects ends in '!'
   abbrev pub Finds : Module → Name → Path → Type 0
   Finds m name p = unmarkedAll (m .names) ≡ true → equal op (lookUp op (m .uses) (m .prefix) name) p ≡ true
 
@@ -50,6 +50,8 @@ module _ (op : Operation) where
     pub name : Name
     pub more : ℕ
     pub wrapped : that ≡ synonyms name (suc more) this
+    -- 02, request 2: exactly once where a Fn's types are not walked again
+    pub once : op .walksAgain ≡ false → more ≡ 0
     pub finds : Finds m name (field 0 this)
 
   pub record ShortExpr (m : Module) (this that : Record) : Type 0 where
@@ -98,7 +100,7 @@ module _ (op : Operation) where
   abbrev pub outside : Path → Module
   outside root = record { prefix = root; uses = nil; names = []; inner = MSel root }
 
-  -- the three are the bytes of their trees, the output is the tree that the text defines, and each point of it holds
+  -- the three are the bytes of their trees, the output is the tree that the operation defines, and each point of it holds
   pub record NamesHold (card root output : Bytes) : Type 0 where
     pub card-tree : encode (tree card) ≡ card
     pub root-tree : encode (tree root) ≡ root

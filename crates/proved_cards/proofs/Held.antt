@@ -1,10 +1,11 @@
--- P3, P8 and P13 meet demand 3's premises and its conclusion, by computation: the statement is not empty. Assumes nothing.
-use mathlib.Core.Path.{_≡_, refl}
-use mathlib.Core.Bool.{true}
+-- P3, P8 and P13 meet demand 3's premises and its conclusion, by computation: the statement is not empty; and what the old operation makes of P13 does not meet
+-- straight shortening's. Assumes nothing.
+use mathlib.Core.Path.{_≡_, refl, ap}
+use mathlib.Core.Bool.{true, false≢true}
 use mathlib.Core.List.{[], _∷_}
 use Rattle.answers.specs.declared.Verdict.the-variants.{Sound}
 use Rattle.wire.specs.Numbers.{le, num, sameBytes}
-use Rattle.records.specs.Record.{leaf, node, nil, _▸_, deep, encode, parse, nth, tree, setNth, _▸▸_, count, skip, first, FoldLeft, mapAll}
+use Rattle.records.specs.Record.{leaf, node, nil, _▸_, text, field, deep, encode, parse, nth, tree, setNth, _▸▸_, count, skip, first, FoldLeft, mapAll}
 use Rattle.records.specs.Kinds.{rowOf, contentAt}
 use Rattle.records.specs.Reading.{read, reading}
 use Rattle.rast.specs.Path.{samePath}
@@ -21,7 +22,7 @@ use Rattle.factor_paths.specs.PathsVisitor.{VisitTypeSingle, VisitExprSingle, V
 use Rattle.factor_paths.specs.Apply.{replaces, ReplaceTypeSingle, ReplaceExprSingle, PathSimplifier, mappings, pathsToRemove, imports, applyPrefix, apply}
 use Rattle.records.specs.Kinds.{mod′}
 use Rattle.rast.specs.Final.{isAmong, finalPath}
-use Rattle.rast.specs.Operation.{upstream}
+use Rattle.rast.specs.Operation.{upstream, straight}
 use Rattle.factor_paths.specs.Walk.{synonyms}
 use Rattle.factor_paths.specs.LookUp.{UseDecls, unmarkedAll, namesBorne, lookUp, has, different, collected}
 use Rattle.points.specs.Points.{Point, outside}
@@ -63,7 +64,31 @@ P3-points = (
       (refl, refl),
       (
         (refl, refl),
-        ((refl, ((refl, ((refl, ((refl, tt), (record { name = 66 ∷ []; more = 0; wrapped = refl; finds = λ u. refl }, ((refl, tt), tt)))), tt)), tt)), tt),
+        (
+          (
+            refl,
+            (
+              (
+                refl,
+                (
+                  (
+                    refl,
+                    (
+                      (refl, tt),
+                      (
+                        record { name = 66 ∷ []; more = 0; wrapped = refl; once = λ z. refl; finds = λ u. refl },
+                        ((refl, tt), tt),
+                      ),
+                    ),
+                  ),
+                  tt,
+                ),
+              ),
+              tt,
+            ),
+          ),
+          tt,
+        ),
       ),
     ),
   ),
@@ -167,7 +192,7 @@ P13-points = (
                                           (
                                             (refl, refl),
                                             (
-                                              record { name = 88 ∷ []; more = 0; wrapped = refl; finds = λ u. refl },
+                                              record { name = 88 ∷ []; more = 0; wrapped = refl; once = λ z. refl; finds = λ u. refl },
                                               ((refl, ((refl, refl), tt)), tt),
                                             ),
                                           ),
@@ -190,7 +215,7 @@ P13-points = (
                                             (
                                               (refl, refl),
                                               (
-                                                record { name = 89 ∷ []; more = 0; wrapped = refl; finds = λ u. refl },
+                                                record { name = 89 ∷ []; more = 0; wrapped = refl; once = λ z. refl; finds = λ u. refl },
                                                 ((refl, ((refl, refl), tt)), tt),
                                               ),
                                             ),
@@ -222,3 +247,16 @@ P13-points = (
     ),
   ),
 )
+
+-- straight, X is looked up under crate::m::b, which gives another path
+pub P13-refuted : Point straight (outside straight Crate) P13-card P13-made → ⊥
+unfolding Point UseDecls synonyms unmarkedAll namesBorne lookUp has different le num sameBytes deep encode parse nth tree setNth _▸▸_ count skip first FoldLeft
+    mapAll rowOf contentAt read reading samePath Mod·Fold Fold Replace VisitType VisitTypeParams VisitFields VisitFn VisitMember VisitBody VisitImplMapping
+    VisitUse VisitTopFn VisitTraitDecl VisitStructMapping VisitModMapping VisitMod ReplaceType ReplaceExpr ReplaceFields ReplaceTypeParams ReplaceFn
+    ReplaceImplMember ReplaceBody ReplaceUse ReplaceTopFn ReplaceTrait ReplaceImplDecl ReplaceEnumCase ReplaceEnum ReplaceConst ReplaceTypeDecl ReplaceStruct
+    ReplaceModDecl ReplaceMod get set isAmong finalPath Add ToFinalReplacement ToUseStatements pairs VisitTypeSingle VisitExprSingle VisitTraitName
+    VisitModDeclSingle replaces ReplaceTypeSingle ReplaceExprSingle PathSimplifier mappings pathsToRemove imports applyPrefix apply
+P13-refuted h =
+    let s = h .2 .1 .1 .1 .0 .1 .0 .1 .0 .2 .1 .1 .1 .0 .1 .0 .1 .0 .1 .1 .1 .1 .0 in
+    let e : 88 ∷ [] ≡ s .name = ap (λ r. text (field 0 (field 0 r))) (s .wrapped) in
+    false≢true (rw (← e) at (s .finds refl))

@@ -1,28 +1,34 @@
--- 01, "Proved cards": P1 to P15 as a table. The root is crate, and a constant that has no value named has RawExpr("").
+-- 01, "Proved cards": P1 to P15 as a table, and what straight shortening (02, request 2) makes of them, with one card more. The root is crate, and a constant
+-- that has no value named has RawExpr("").
 use mathlib.Core.List.{List, [], _∷_, _++_}
 use mathlib.Core.Bool.{_&&_, cond}
-use Prim.Native.Nat.{ℕ, _+_, _-_}
+use Prim.Native.Nat.{ℕ, _+_, _-_, max}
 use lib.ListN.{length, replicate}
 use lib.Dec.{leb}
 use Rattle.answers.specs.Answers.{number, value}
 use Rattle.wire.specs.Numbers.{Bytes}
 use Rattle.records.specs.Record.{Record, Records, nil, _▸_, encode}
 use Rattle.rast.specs.Path.{Name, Path, Global, Self, MSel, «dafny_runtime»}
-use Rattle.rast.specs.Operation.{upstream}
+use Rattle.rast.specs.Operation.{Operation}
 use Rattle.factor_paths.specs.Mapping.{useDecl}
 use Rattle.factor_paths.specs.Apply.{TIdentifier, TSynonym, Identifier}
 use Rattle.outcome.specs.Outcome.{Outcome, shorten}
 use Rattle.proved_cards.specs.Builders.{Crate, Bool′, TypeFromPath, Borrowed, RawExpr, ExprFromType, ExprFromPath, Mod, ExternMod, ModDecl, ImplDecl}
 use Rattle.proved_cards.specs.Builders.{Impl, constant, struct, Field, function}
 
--- a card, its length, the length of the out buffer that is lent with it; the answer's number and its length or place, and the output (of a refusal: none)
+-- an answer's number and its length or place, and the output (of a refusal: none)
+pub record Answered : Type 0 where
+  pub answers : ℕ
+  pub with : ℕ
+  pub output : Bytes
+
+-- a card, its length, the length of the out buffer that is lent with it, and what each operation answers
 pub record ProvedCard : Type 0 where
   pub card : Bytes
   pub long : ℕ
   pub room : ℕ
-  pub answers : ℕ
-  pub with : ℕ
-  pub output : Bytes
+  pub upstream : Answered
+  pub straight : Answered
 
 -- names
 abbrev a : Name
@@ -75,9 +81,24 @@ short n p = TSynonym (TIdentifier n) (TypeFromPath p)
 abbrev constants : Record → Record → Records
 constants t u = constant k1 t (RawExpr []) ▸ constant k2 u (RawExpr []) ▸ nil
 
+-- so many bytes put out; a refusal with its place
+abbrev puts : ℕ → Record → Answered
+puts n s = record { answers = 0; with = n; output = encode s }
+
+abbrev refuses : (answers place : ℕ) → Answered
+refuses answers place = record { answers = answers; with = place; output = [] }
+
+-- a card that both operations answer alike, with so many bytes lent
+abbrev alike : Bytes → (long room : ℕ) → Answered → ProvedCard
+alike card long room both = record { card = card; long = long; room = room; upstream = both; straight = both }
+
 -- a card of so many bytes that is accepted, with so many bytes put out; one byte more is lent
 abbrev accepted : (long n : ℕ) → Record → Record → ProvedCard
-accepted long n r s = record { card = encode r; long = long; room = n + 1; answers = 0; with = n; output = encode s }
+accepted long n r s = alike (encode r) long (n + 1) (puts n s)
+
+-- and one that straight shortening makes another output of
+abbrev apart : ℕ → Record → ℕ → Record → ℕ → Record → ProvedCard
+apart long r n s n′ s′ = record { card = encode r; long = long; room = max n n′ + 1; upstream = puts n s; straight = puts n′ s′ }
 
 abbrev unchanged : ℕ → Record → ProvedCard
 unchanged n r = accepted n n r r
@@ -94,11 +115,26 @@ P8-card = Mod m (constant k1 Bool′ (ExprFromPath (from a rd!)) ▸ nil)
 abbrev pub P8-made : Record
 P8-made = Mod m (useDecl (from a rd) ▸ constant k1 Bool′ (Identifier rd!) ▸ nil)
 
+-- crate::m::b, the true path of module b in m
+abbrev true-b : Path
+true-b = MSel (MSel Crate m) b
+
+-- module b in m, with X of a base and ::c::Y; X short with no use of its own; and with one
+abbrev nestedIn : Path → Record
+nestedIn base = Mod m (ModDecl (Mod b (constants (TypeFromPath (MSel base X)) (TypeFromPath (from c Y)))) ▸ nil)
+
+abbrev nestedShort : Path → Record
+nestedShort base = Mod m (ModDecl (Mod b (useDecl (from c Y) ▸ constants (short X (MSel base X)) (short Y (from c Y)))) ▸ nil)
+
+abbrev nestedBoth : Path → Record
+nestedBoth base =
+    Mod m (ModDecl (Mod b (useDecl (MSel base X) ▸ useDecl (from c Y) ▸ constants (short X (MSel base X)) (short Y (from c Y)))) ▸ nil)
+
 abbrev pub P13-card : Record
-P13-card = Mod m (ModDecl (Mod b (constants (TypeFromPath (MSel (MSel (MSel (MSel Crate m) b) b) X)) (TypeFromPath (from c Y)))) ▸ nil)
+P13-card = nestedIn (MSel true-b b)
 
 abbrev pub P13-made : Record
-P13-made = Mod m (ModDecl (Mod b (useDecl (from c Y) ▸ constants (short X (MSel (MSel (MSel (MSel Crate m) b) b) X)) (short Y (from c Y)))) ▸ nil)
+P13-made = nestedShort (MSel true-b b)
 
 abbrev P1-bytes : Bytes
 P1-bytes = 9 ∷ 0 ∷ 0 ∷ 0 ∷ 0x61 ∷ 0 ∷ 3 ∷ 0 ∷ 0 ∷ 0 ∷ 1 ∷ 0 ∷ 0x61 ∷ []
@@ -106,11 +142,11 @@ P1-bytes = 9 ∷ 0 ∷ 0 ∷ 0 ∷ 0x61 ∷ 0 ∷ 3 ∷ 0 ∷ 0 ∷ 0 ∷ 1 ∷ 
 unfoldable pub provedCards : List ProvedCard
 provedCards =
     -- P1, its bytes as 01 spells them; P2
-    record { card = P1-bytes; long = 13; room = 40; answers = 0; with = 13; output = encode (ExternMod a) }
+    alike P1-bytes 13 40 (puts 13 (ExternMod a))
     ∷ unchanged 31 (Mod m nil)
     -- P3: one use ::B, and a buffer that just holds it; P4: one byte short
-    ∷ record { card = encode P3-card; long = 80; room = 137; answers = 0; with = 137; output = encode P3-made }
-    ∷ record { card = encode P3-card; long = 80; room = 136; answers = 9; with = 0; output = [] }
+    ∷ alike (encode P3-card) 80 137 (puts 137 P3-made)
+    ∷ alike (encode P3-card) 80 136 (refuses 9 0)
     -- P5: ::a::X and ::b::X
     ∷ unchanged 195 (Mod m (constants (TypeFromPath (from a X)) (TypeFromPath (from b X))))
     -- P6: dafny_runtime::X and ::a::X; one use, ::a::X stays long
@@ -127,19 +163,21 @@ provedCards =
     ∷ unchanged 100 (Mod m (constant k1 (TypeFromPath (MSel Self X)) (RawExpr []) ▸ nil))
     -- P10: ::a::X in a field of struct S only
     ∷ unchanged 144 (Mod m (struct S (Field f (TypeFromPath (from a X)) ▸ nil) ▸ nil))
-    -- P11: result type Borrowed(::B), wrapped twice
-    ∷ accepted 130 206
-    (Mod m (function f (Borrowed (TypeFromPath (MSel Global B)) ▸ nil) nil ▸ nil))
-    (Mod m (useDecl (MSel Global B) ▸ function f (Borrowed (TSynonym (TIdentifier B) (short B (MSel Global B))) ▸ nil) nil ▸ nil))
-    -- P12: body ExprFromType(::B), wrapped twice
-    ∷ accepted 130 206
-    (Mod m (function f nil (ExprFromType (TypeFromPath (MSel Global B)) ▸ nil) ▸ nil))
-    (Mod m (useDecl (MSel Global B) ▸ function f nil (ExprFromType (TSynonym (TIdentifier B) (short B (MSel Global B))) ▸ nil) ▸ nil))
-    -- P13: module b in m, with crate::m::b::b::X and ::c::Y; X short with no use, use ::c::Y in b
-    ∷ accepted 258 347 P13-card P13-made
+    -- P11: result type Borrowed(::B), wrapped twice; straight, once
+    ∷ apart 130 (Mod m (function f (Borrowed (TypeFromPath (MSel Global B)) ▸ nil) nil ▸ nil))
+    206 (Mod m (useDecl (MSel Global B) ▸ function f (Borrowed (TSynonym (TIdentifier B) (short B (MSel Global B))) ▸ nil) nil ▸ nil))
+    187 (Mod m (useDecl (MSel Global B) ▸ function f (Borrowed (short B (MSel Global B)) ▸ nil) nil ▸ nil))
+    -- P12: body ExprFromType(::B), wrapped twice; straight, once
+    ∷ apart 130 (Mod m (function f nil (ExprFromType (TypeFromPath (MSel Global B)) ▸ nil) ▸ nil))
+    206 (Mod m (useDecl (MSel Global B) ▸ function f nil (ExprFromType (TSynonym (TIdentifier B) (short B (MSel Global B))) ▸ nil) ▸ nil))
+    187 (Mod m (useDecl (MSel Global B) ▸ function f nil (ExprFromType (short B (MSel Global B)) ▸ nil) ▸ nil))
+    -- P13: module b in m, with crate::m::b::b::X and ::c::Y; X short with no use, use ::c::Y in b; straight, use crate::m::b::b::X beside it
+    ∷ apart 258 P13-card 347 P13-made 424 (nestedBoth (MSel true-b b))
+    -- P13 with crate::m::b::X: use crate::m::b::X beside use ::c::Y; straight, X short with no use in b
+    ∷ apart 245 (nestedIn true-b) 398 (nestedBoth true-b) 334 (nestedShort true-b)
     -- P14: a Mod with no content; P15: P1's card and one byte more
-    ∷ record { card = 2 ∷ 0 ∷ 0 ∷ 0 ∷ 0x60 ∷ 0 ∷ []; long = 6; room = 40; answers = 4; with = 6; output = [] }
-    ∷ record { card = P1-bytes ++ (0 ∷ []); long = 14; room = 40; answers = 7; with = 13; output = [] }
+    ∷ alike (2 ∷ 0 ∷ 0 ∷ 0 ∷ 0x60 ∷ 0 ∷ []) 6 40 (refuses 4 6)
+    ∷ alike (P1-bytes ++ (0 ∷ [])) 14 40 (refuses 7 13)
     ∷ []
 
 -- the number, the length or place, and what the out buffer and the work words hold
@@ -150,17 +188,17 @@ pub record Seen : Type 0 where
   pub work : List ℕ
 
 -- lent with the card: an out buffer of bytes 0xAA, 2,048 work words of 5
-abbrev pub seen : ProvedCard → Seen
-seen p =
-    let o : Outcome = shorten upstream (p .card) (encode Crate) (replicate (p .room) 0xAA) (replicate 2048 5) in
+abbrev pub seen : Operation → ProvedCard → Seen
+seen op p =
+    let o : Outcome = shorten op (p .card) (encode Crate) (replicate (p .room) 0xAA) (replicate 2048 5) in
     record { answers = number (o .answer); with = value (o .answer); out = o .out; work = o .work }
 
--- what 01 says: the output, and then what the out buffer held; the work words left after 1 to 7, and else zero
-abbrev pub stated : ProvedCard → Seen
-stated p =
+-- what is stated of a card with so many bytes lent: the output, and then what the out buffer held; the work words left after 1 to 7, and else zero
+abbrev pub stated : ℕ → Answered → Seen
+stated room by =
     record {
-      answers = p .answers;
-      with = p .with;
-      out = (p .output) ++ replicate (p .room - length (p .output)) 0xAA;
-      work = replicate 2048 (cond (leb 1 (p .answers) && leb (p .answers) 7) 5 0);
+      answers = by .answers;
+      with = by .with;
+      out = (by .output) ++ replicate (room - length (by .output)) 0xAA;
+      work = replicate 2048 (cond (leb 1 (by .answers) && leb (by .answers) 7) 5 0);
     }

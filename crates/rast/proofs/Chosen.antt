@@ -1,4 +1,4 @@
--- What an operation's choice among a name's bases has to keep, and that upstream's keeps it. Assumes nothing.
+-- What an operation's choice among a name's bases has to keep, and that shortening's keeps it. Assumes nothing.
 use mathlib.Core.Path.{_≡_, refl, sym, _∙_}
 use mathlib.Core.List.{List, [], _∷_, map}
 use mathlib.Core.Bool.{Bool, true, false, or-false, false≢true}
@@ -10,9 +10,10 @@ use lib.Dec.{eqb}
 use borrow.Author.Tests.{ne-eqb}
 use Rattle.rast.specs.Path.{Path, «dafny_runtime», samePath, whether}
 use Rattle.rast.specs.Final.{isAmong, finalPath}
-use Rattle.rast.specs.Operation.{Operation, upstream}
+use Rattle.wire.specs.Numbers.{sameBytes}
+use Rattle.rast.specs.Operation.{Operation, shortening}
 use Rattle.rast.proofs.Tests.{by-test}
-use Rattle.rast.proofs.Names.{Equivalence, turned, paths, upstream-names}
+use Rattle.rast.proofs.Names.{Equivalence, turned, paths, shortening-names}
 
 -- something is so of each of some
 unfoldable pub Each : {A : Type 0} → (A → Type 0) → List A → Type 0
@@ -79,9 +80,9 @@ module _ {A B : Type 0} (same : A → A → Bool) (same′ : B → B → Bool) (
       (by-test (isAmong same S (p ∷ q ∷ ps)) (λ t. rw t)
       (λ t. by-test (isAmong same runtime (p ∷ q ∷ ps)) (λ u. rw (t, u)) (λ u. rw (t, u))))
 
-pub upstream-chooses : Chooses upstream
-upstream-chooses = record {
-  self = λ S. final-self (samePath (upstream .sameName)) «dafny_runtime» S (paths upstream-names);
-  inside = λ S. final-inside (samePath (upstream .sameName)) «dafny_runtime» S (paths upstream-names);
-  kept = λ Q S ps q s r. final-kept (samePath (upstream .sameName)) «dafny_runtime» S Q ps q s r;
+pub shortening-chooses : (again : Bool) → Chooses (shortening again)
+shortening-chooses again = record {
+  self = λ S. final-self (samePath sameBytes) «dafny_runtime» S (paths (shortening-names again));
+  inside = λ S. final-inside (samePath sameBytes) «dafny_runtime» S (paths (shortening-names again));
+  kept = λ Q S ps q s r. final-kept (samePath sameBytes) «dafny_runtime» S Q ps q s r;
 }

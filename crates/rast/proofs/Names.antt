@@ -7,7 +7,7 @@ use Rattle.wire.specs.Numbers.{sameBytes}
 use Rattle.wire.proofs.Numbers.{sameBytes-self, sameBytes-true}
 use Rattle.records.specs.Record.{Records, leaf, node, nil, _▸_}
 use Rattle.rast.specs.Path.{Name, Path, samePath, sameParts, MSel}
-use Rattle.rast.specs.Operation.{Operation, upstream}
+use Rattle.rast.specs.Operation.{Operation, shortening}
 use Rattle.rast.proofs.Tests.{both-ways, both, both-twice}
 
 -- a test is an equivalence
@@ -101,8 +101,8 @@ module _ {same : Name → Name → Bool} (E : Equivalence same) where
   selected-same p q m n g h = rw (g, h)
 
 -- comparing the bytes of names is an equivalence
-pub upstream-names : Names upstream
-upstream-names = record {
+pub shortening-names : (again : Bool) → Names (shortening again)
+shortening-names again = record {
   reflexive = sameBytes-self;
   symmetric = λ a b h. rw (sameBytes-true a b h) (sameBytes-self b);
   transitive = λ a b c g h. rw (sameBytes-true a b g) h;
@@ -111,7 +111,7 @@ upstream-names = record {
 mutual
   unfolding samePath
 
-  -- paths that are the same upstream are equal
+  -- paths whose names are the same bytes are equal
   pub same-equal : (p q : Path) → samePath sameBytes p q ≡ true → p ≡ q
   same-equal (leaf k b) (leaf j d) h = let i = and-eq-true-iff _ _ .0 h in ap₂ leaf (eqb-true k j (i .0)) (sameBytes-true b d (i .1))
   same-equal (leaf k b) (node j d) h = absurd (false≢true h)

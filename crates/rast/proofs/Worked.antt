@@ -4,12 +4,12 @@ use mathlib.Core.List.{[], _∷_, _++_, map}
 use mathlib.Core.Option.{some}
 use Prim.Native.Nat.{ℕ, suc, _+_}
 use Rattle.wire.specs.Numbers.{Bytes}
-use Rattle.records.specs.Record.{Record, Records, leaf, node, nil, _▸_, _▸▸_, kind, text, nth, field, update, setNth, FoldLeft, mapAll}
+use Rattle.records.specs.Record.{Record, Records, leaf, node, nil, _▸_, _▸▸_, kind, text, nth, field, update, setNth, FoldLeft, mapAll, Map}
 use Rattle.rast.specs.Path.{Name, Path, Global, MSel, selected}
-use Rattle.rast.specs.Operation.{nested, upstream}
+use Rattle.rast.specs.Operation.{nested, upstream, straight}
 use Rattle.rast.specs.Mod.{Mod·Fold}
 use Rattle.rast.specs.Fold.{Fold, Type·Fold, Expr·Fold}
-use Rattle.rast.specs.Replace.{Replace, Type·Replace}
+use Rattle.rast.specs.Replace.{Replace, Type·Replace, Formal·Replace}
 use Rattle.rast.specs.Visitor.{RASTTopDownVisitor, VisitType, VisitTypeParams, VisitFields, VisitFn, VisitMember, VisitBody, VisitImplMapping}
 use Rattle.rast.specs.Visitor.{VisitUse, VisitTopFn, VisitTraitDecl, VisitStructMapping, VisitModMapping, VisitMod}
 use Rattle.rast.specs.Replacer.{RASTBottomUpReplacer, ReplaceType, ReplaceExpr, ReplaceFields, ReplaceTypeParams, ReplaceFn, ReplaceImplMember}
@@ -129,12 +129,13 @@ more (node k c) = node k c
 abbrev counting : RASTBottomUpReplacer
 counting = record { ReplaceModSingle = λ m p. p; ReplaceTypeSingle = update 0 more; ReplaceExprSingle = update 0 more }
 
--- each is replaced once, and twice where a Fn's types and expressions hold it
-pub module-replaced : ReplaceMod upstream counting worked path ≡ Mod (200 ∷ []) (declared suc (λ n. suc (suc n)) (MSel path (201 ∷ [])))
+-- each is replaced once, and twice where a Fn's types and expressions hold it; straight, once there too
+pub module-replaced : (ReplaceMod upstream counting worked path ≡ Mod (200 ∷ []) (declared suc (λ n. suc (suc n)) (MSel path (201 ∷ []))))
+    × (ReplaceMod straight counting worked path ≡ Mod (200 ∷ []) (declared suc suc (MSel path (201 ∷ []))))
 unfolding nth setNth _▸▸_ FoldLeft mapAll Mod·Fold Replace ReplaceType ReplaceExpr ReplaceFields ReplaceTypeParams ReplaceFn ReplaceImplMember
     ReplaceBody ReplaceUse ReplaceTopFn ReplaceTrait ReplaceImplDecl ReplaceEnumCase ReplaceEnum ReplaceConst ReplaceTypeDecl
     ReplaceStruct ReplaceModDecl ReplaceMod
-module-replaced = refl
+module-replaced = (refl, refl)
 
 -- TypeFromPath(PMemberSelect(Global, "A")): its base and its name
 pub path-selected : selected 0x2D (node 0x2D (node 0x13 (Global ▸ leaf 0x01 (65 ∷ []) ▸ nil) ▸ nil)) ≡ some (record { base = Global; name = 65 ∷ [] })
@@ -142,5 +143,17 @@ unfolding nth
 path-selected = refl
 
 -- 01, applyPrefix: a nested module's name stands twice in its prefix
-pub nested-twice : nested upstream path (201 ∷ []) ≡ MSel (MSel path (201 ∷ [])) (201 ∷ [])
-nested-twice = refl
+pub nested-twice : (S : Path) (name : Name) → nested upstream S name ≡ MSel (MSel S name) name
+nested-twice S name = refl
+
+-- 02, request 2: straight, once, which is its true path
+pub nested-once : (S : Path) (name : Name) → nested straight S name ≡ MSel S name
+nested-once S name = refl
+
+-- and a Fn's types and body are replaced as those of any other declaration are
+pub fn-straight : (this : RASTBottomUpReplacer) (t : Record) → ReplaceFn straight this t
+    ≡ update 1 (ReplaceTypeParams straight this)
+    (update 2 (Map (λ formal. Formal·Replace formal (this .ReplaceTypeSingle)))
+    (update 3 (Map (ReplaceType straight this)) (update 4 (Map (ReplaceExpr straight this)) t)))
+unfolding ReplaceFn ReplaceType ReplaceExpr
+fn-straight this t = refl

@@ -1,6 +1,6 @@
--- What may differ between one operation and another, and the values of the operation that the Dafny text defines. Assumes nothing: these are definitions.
+-- What may differ between one operation and another; the one that the Dafny text defines, and straight shortening. Assumes nothing: these are definitions.
 use mathlib.Core.List.{List}
-use mathlib.Core.Bool.{Bool, true, cond}
+use mathlib.Core.Bool.{Bool, true, false, cond}
 use mathlib.Core.Option.{Option}
 use Prim.Native.Nat.{ℕ}
 use Rattle.wire.specs.Numbers.{sameBytes}
@@ -21,7 +21,7 @@ pub record Operation : Type 0 where
   pub sameName : Name → Name → Bool
   -- whether PathSimplifier's ReplaceModSingle adds the module's name to the path that it is handed
   pub namesAgain : Bool
-  -- whether ReplaceFn hands ReplaceType and ReplaceExpr to Replace, which walk again
+  -- whether ReplaceFn hands ReplaceType and ReplaceExpr to Replace, which walk again, or ReplaceTypeSingle and ReplaceExprSingle
   pub walksAgain : Bool
   -- the base chosen among those of a name, given SelfPath
   pub chosenBase : Path → List Path → Option Path
@@ -34,8 +34,9 @@ entering op SelfPath name = cond (op .namesAgain) (MSel SelfPath name) SelfPath
 abbrev pub nested : Operation → Path → Name → Path
 nested op SelfPath name = entering op (MSel SelfPath name) name
 
-abbrev pub upstream : Operation
-upstream =
+-- the operations that there are, which differ in whether a nested module's name is added again and a Fn's types are walked again
+abbrev pub shortening : Bool → Operation
+shortening again =
     record {
       fewestWords = 2048;
       mostCardBytes = 32768;
@@ -45,7 +46,15 @@ upstream =
       mostPairs = λ words. 512;
       outermost = mod′;
       sameName = sameBytes;
-      namesAgain = true;
-      walksAgain = true;
+      namesAgain = again;
+      walksAgain = again;
       chosenBase = finalPath (samePath sameBytes) «dafny_runtime»;
     }
+
+-- the one that the Dafny text defines
+abbrev pub upstream : Operation
+upstream = shortening true
+
+-- 02, request 2, straight shortening: each name counts once in the prefix, and a path type is wrapped exactly once, also in a Fn
+abbrev pub straight : Operation
+straight = shortening false

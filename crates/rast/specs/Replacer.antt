@@ -31,7 +31,7 @@ module _ (op : Operation) (this : RASTBottomUpReplacer) where
   unfoldable pub ReplaceTypeParams : Record → Record
   ReplaceTypeParams typeParams = Map (update 1 (Map ReplaceType)) typeParams
 
-  -- upstream hands on ReplaceType and ReplaceExpr
+  -- the text hands on ReplaceType and ReplaceExpr; straight shortening hands on the single functions, as ReplaceType and ReplaceExpr do
   unfoldable pub ReplaceFn : Record → Record
   ReplaceFn t =
       let ft : Record → Record = cond (op .walksAgain) ReplaceType (this .ReplaceTypeSingle) in

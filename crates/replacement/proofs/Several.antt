@@ -12,7 +12,6 @@ use Rattle.records.specs.Record.{encode, recordAt}
 use Rattle.rast.specs.Path.{«dafny_runtime»}
 use Rattle.rast.proofs.Tests.{by-test}
 use Rattle.operation.specs.declared.Shortening.{Shortening}
-use Rattle.operation.specs.declared.Shortening.the-variants.{Upstream, Weighed}
 use Rattle.operation.specs.Operations.{operationOf, samePaths}
 use Rattle.prefix.specs.Prefix.{Scope, prefixIn}
 use Rattle.comparing.specs.Compares.{placeIn, tagIn, baseAt, sameBase}
@@ -37,20 +36,14 @@ seek-holds f words g h =
 
 -- a path that is the same as one is not the same as another
 other-path : (op : Shortening) (a p base : Bytes) → samePaths op a p ≡ true → sameBytes base p ≡ false → samePaths op a base ≡ false
-other-path Upstream a p base e n =
-    let z = sameBytes-true a p e in
-    by-test (sameBytes a base)
-    (λ t. absurd (true≢false (sym (sameBytes-self p) ∙ ap (λ (x : Bytes). sameBytes x p) (sym z ∙ sameBytes-true a base t) ∙ n)))
-    (λ t. t)
-other-path Weighed a p base e n =
+other-path op a p base e n =
     let z = sameBytes-true a p e in
     by-test (sameBytes a base)
     (λ t. absurd (true≢false (sym (sameBytes-self p) ∙ ap (λ (x : Bytes). sameBytes x p) (sym z ∙ sameBytes-true a base t) ∙ n)))
     (λ t. t)
 
 same-paths : (op : Shortening) (a b : Bytes) → sameBytes a b ≡ true → samePaths op a b ≡ true
-same-paths Upstream a b e = e
-same-paths Weighed a b e = e
+same-paths op a b e = e
 
 either-way : (a b x : Bool) → cond (a || (true || b)) x false ≡ true → x ≡ true
 either-way true b x h = h

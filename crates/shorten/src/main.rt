@@ -4,6 +4,7 @@ use answers::Answer;
 use libc::STDERR_FILENO;
 use libc::STDIN_FILENO;
 use libc::STDOUT_FILENO;
+use operation::Pass;
 
 // The Path record Crate.
 const ROOT: [u8; 6] = [2, 0, 0, 0, 0x11, 0];
@@ -21,7 +22,7 @@ fn refuse(a: Answer) -> bool {
 fn shorten(card: &[u8]) -> bool {
     let mut out = [0u8; 65536];
     let mut work = [0u32; 2048];
-    let a = shortening::shorten(card, &ROOT, &mut out, &mut work);
+    let a = shortening::shorten(Pass::Upstream, card, &ROOT, &mut out, &mut work);
     match a {
         Answer::Shortened(n) => io::write_all(STDOUT_FILENO, wire::part(&out, 0, n)),
         _ => refuse(a),

@@ -18,9 +18,14 @@ use Rattle.rast.specs.Path.{whether}
 use Rattle.rast.specs.Operation.{upstream}
 use Rattle.rast.proofs.Tests.{by-test}
 use Rattle.outcome.specs.Outcome.{Outcome, admitted, shorten}
-use Rattle.outcome.proofs.Accepted.{admitted-sound}
+use Rattle.outcome.proofs.Accepted.{admitted-alike, admitted-sound, accepted-times}
 use Rattle.points.proofs.Demand.{demand-3}
-use Rattle.operation.specs.declared.Shortening.the-variants.{Upstream}
+use Rattle.operation.specs.declared.Pass.{Pass}
+use Rattle.operation.specs.declared.Shortening.{Shortening}
+use Rattle.operation.specs.Passes.{repeats, asked}
+use Rattle.operation.specs.Operations.{passOf, operationOf, plainOf, weightOf}
+use Rattle.operation.proofs.Lawful.{pass-plain}
+use Rattle.operation.proofs.Weights.{plain-weight}
 use Rattle.chains.specs.Chains.{room}
 use Rattle.measuring.specs.declared.Written.{Written}
 use Rattle.measuring.specs.declared.Written.the-variants.{Full, Length}
@@ -29,32 +34,34 @@ use Rattle.measuring.proofs.Sound.{FullAt, Bytes′, Result, few-full, whole-so
 use Rattle.shortening.specs.Shortened.{answerOf, outcome, Promise, Alone, Admitted}
 
 -- an outcome that is the definition's keeps the promise
-promised : (card root out : Bytes) (work : List ℕ) (a : Answer) (out′ : Bytes) (work′ : List ℕ) → ((i : ℕ) → getD card i 0 < 256) →
+promised : (pass : Pass) (card root out : Bytes) (work : List ℕ) (a : Answer) (out′ : Bytes) (work′ : List ℕ) → ((i : ℕ) → getD card i 0 < 256) →
     ((i : ℕ) → getD root i 0 < 256)
-    → outcome a out′ work′ ≡ shorten upstream card root out work → Promise card root out work a out′ work′
-promised card root out work a out′ work′ bc br e =
+    → outcome a out′ work′ ≡ shorten (asked pass) card root out work → Promise pass card root out work a out′ work′
+promised pass card root out work a out′ work′ bc br e =
     record {
       fixed = e;
       names = λ n h. rw (← ap (λ (o : Outcome). o .out) e) at
-          (demand-3 card root out work n (are-bytes card bc) (are-bytes root br) (ap (λ (o : Outcome). o .answer) (sym e) ∙ h));
+          (demand-3 (repeats pass) card root out work n (are-bytes card bc) (are-bytes root br) (ap (λ (o : Outcome). o .answer) (sym e) ∙ h));
+      bound = λ n h. accepted-times (repeats pass) card root out work n (are-bytes card bc) (ap (λ (o : Outcome). o .answer) (sym e) ∙ h);
     }
 
 -- what is made of a card that is admitted, by words that have room for as many pairs as there may be, or for all that the card can have
-module _ (card root out : Bytes) (work : List ℕ) (bc : (i : ℕ) → getD card i 0 < 256) (br : (i : ℕ) → getD root i 0 < 256)
-    (is-sound : admitted upstream card root (length work) ≡ Sound) (words : List ℕ)
-    (enough-words : FullAt Upstream card root (length work) is-sound bc br (room words) ≡ FullAt Upstream card root (length work) is-sound bc br 512) where
+module _ (op : Shortening) (weightless : weightOf op ≡ 0) (card root out : Bytes) (work : List ℕ)
+    (bc : (i : ℕ) → getD card i 0 < 256) (br : (i : ℕ) → getD root i 0 < 256)
+    (is-sound : admitted (operationOf op) card root (length work) ≡ Sound) (words : List ℕ)
+    (enough-words : FullAt op card root (length work) is-sound bc br (room words) ≡ FullAt op card root (length work) is-sound bc br 512) where
   abbrev Whole : Bytes
-  Whole = Bytes′ Upstream card root (length work) is-sound bc br
+  Whole = Bytes′ op card root (length work) is-sound bc br
 
   abbrev Place : Option ℕ
-  Place = FullAt Upstream card root (length work) is-sound bc br 512
+  Place = FullAt op card root (length work) is-sound bc br 512
 
   room-same : length Whole ≤ length out → length (Whole ++ drop (length Whole) out) ≡ length out
   room-same l = let a = length-append Whole (drop (length Whole) out) in let b = length-drop (length Whole) out in omega arith
 
-  module _ (w : Written) (out′ : Bytes) (words′ : List ℕ) (o : output w out′ words′ ≡ wholeOutput Upstream card root words out) where
-    result : Result Upstream card root (length work) is-sound bc br words out (output w out′ words′)
-    result = rw o (whole-sound Upstream card root (length work) is-sound bc br refl words out)
+  module _ (w : Written) (out′ : Bytes) (words′ : List ℕ) (o : output w out′ words′ ≡ wholeOutput op card root words out) where
+    result : Result op card root (length work) is-sound bc br words out (output w out′ words′)
+    result = rw o (whole-sound op card root (length work) is-sound bc br weightless words out)
 
     answer-is : (x : Option ℕ) → Place ≡ x → w ≡ whether x (Length (length Whole)) Full
     answer-is x q = result .answer-is ∙ ap (λ (y : Option ℕ). whether y (Length (length Whole)) Full) (enough-words ∙ q)
@@ -63,7 +70,8 @@ module _ (card root out : Bytes) (work : List ℕ) (bc : (i : ℕ) → getD card
     out-is x q = result .out-is ∙ ap (λ (y : Option ℕ). whether y (cond (ltb (length out) (length Whole)) out (Whole ++ drop (length Whole) out))
         (λ place. out)) (enough-words ∙ q)
 
-    is-outcome : (x : Option ℕ) → Place ≡ x → outcome (answerOf w (length out′)) out′ (replicate (length work) 0) ≡ shorten upstream card root out work
+    is-outcome : (x : Option ℕ) → Place ≡ x
+        → outcome (answerOf w (length out′)) out′ (replicate (length work) 0) ≡ shorten (operationOf op) card root out work
     unfolding shorten
     is-outcome none q =
         rw (out-is none q, answer-is none q, is-sound, q)
@@ -71,21 +79,19 @@ module _ (card root out : Bytes) (work : List ℕ) (bc : (i : ℕ) → getD card
         (λ t. rw (t, room-same (ltb-false (length out) (length Whole) t), t)))
     is-outcome (some place) q = rw (out-is (some place) q, answer-is (some place) q, is-sound, q)
 
-    made : outcome (answerOf w (length out′)) out′ (replicate (length work) 0) ≡ shorten upstream card root out work
+    made : outcome (answerOf w (length out′)) out′ (replicate (length work) 0) ≡ shorten (operationOf op) card root out work
     made = is-outcome Place refl
 
-module _ (card root out : Bytes) (work : List ℕ) (bc : (i : ℕ) → getD card i 0 < 256) (br : (i : ℕ) → getD root i 0 < 256)
+-- a card refused, by any pass
+module _ (pass : Pass) (card root out : Bytes) (work : List ℕ) (bc : (i : ℕ) → getD card i 0 < 256) (br : (i : ℕ) → getD root i 0 < 256)
     (v : Verdict) (e : v ≡ admitted upstream card root (length work)) where
-  pub refused : (a : Answer) → v ≡ Refused a → Promise card root out work a out work
+  pub refused : (a : Answer) → v ≡ Refused a → Promise pass card root out work a out work
   unfolding shorten
-  refused a h = promised card root out work a out work bc br (rw (← e, h))
+  refused a h = promised pass card root out work a out work bc br (rw (admitted-alike (repeats pass) card root (length work), ← e, h))
 
   module _ (h : v ≡ Sound) where
-    is-sound : admitted upstream card root (length work) ≡ Sound
-    is-sound = sym e ∙ h
-
     pub enough : 2048 ≤ length work
-    enough = admitted-sound upstream card root (length work) is-sound .enough
+    enough = admitted-sound upstream card root (length work) (sym e ∙ h) .enough
 
     pub lent : 2048 ≡ length (take 2048 work)
     lent = let a = length-take 2048 work in let b = enough in omega arith
@@ -93,10 +99,20 @@ module _ (card root out : Bytes) (work : List ℕ) (bc : (i : ℕ) → getD card
     most : room (take 2048 work) ≡ 512
     most = ap (λ (n : ℕ). min (n / 4) 65535) (sym lent)
 
-    module _ (w : Written) (out′ : Bytes) (words : List ℕ) (o : output w out′ words ≡ wholeOutput Upstream card root (take 2048 work) out) where
+    module _ (op : Shortening) (p : op ≡ plainOf pass) (w : Written) (out′ : Bytes) (words : List ℕ)
+        (o : output w out′ words ≡ wholeOutput op card root (take 2048 work) out) where
+      same-pass : passOf op ≡ pass
+      same-pass = ap passOf p ∙ pass-plain pass
+
+      weightless : weightOf op ≡ 0
+      weightless = ap weightOf p ∙ plain-weight pass
+
+      is-sound : admitted (operationOf op) card root (length work) ≡ Sound
+      is-sound = admitted-alike (repeats (passOf op)) card root (length work) ∙ sym e ∙ h
+
       words-all : length (words ++ drop 2048 work) ≡ length work
       words-all =
-          let r = rw (← o) at (whole-sound Upstream card root (length work) is-sound bc br refl (take 2048 work) out) in
+          let r = rw (← o) at (whole-sound op card root (length work) is-sound bc br weightless (take 2048 work) out) in
           let a : length words ≡ length (take 2048 work) = r .words-long in
           let b = length-append words (drop 2048 work) in
           let c = length-drop 2048 work in
@@ -105,31 +121,37 @@ module _ (card root out : Bytes) (work : List ℕ) (bc : (i : ℕ) → getD card
           omega arith
 
       pub kept : (work′ : List ℕ) → work′ ≡ replicate (length (words ++ drop 2048 work)) 0 → (a : Answer) → a ≡ answerOf w (length out′)
-          → Promise card root out work a out′ work′
+          → Promise pass card root out work a out′ work′
       kept work′ z a f =
-          promised card root out work a out′ work′ bc br
+          promised pass card root out work a out′ work′ bc br
           (rw (f, z ∙ ap (λ (n : ℕ). replicate n 0) words-all)
-          (made card root out work bc br is-sound (take 2048 work) (ap (FullAt Upstream card root (length work) is-sound bc br) most) w out′ words o))
+          (made op weightless card root out work bc br is-sound (take 2048 work) (ap (FullAt op card root (length work) is-sound bc br) most) w out′ words o
+          ∙ ap (λ (q : Pass). shorten (asked q) card root out work) same-pass))
 
 -- by words of its own
 abbrev own-words : List ℕ
 own-words = replicate 2048 0
 
-alone : (card root out : Bytes) (a : Answer) (out′ : Bytes) (work′ : List ℕ) → Promise card root out own-words a out′ work′ → Alone card root out a out′
-alone card root out a out′ work′ p =
+alone : (pass : Pass) (card root out : Bytes) (a : Answer) (out′ : Bytes) (work′ : List ℕ) → Promise pass card root out own-words a out′ work′
+    → Alone pass card root out a out′
+alone pass card root out a out′ work′ p =
     record {
       answer-is = ap (λ (o : Outcome). o .answer) (p .fixed);
       out-is = ap (λ (o : Outcome). o .out) (p .fixed);
       names = p .names;
+      bound = p .bound;
     }
 
-module _ (card root out : Bytes) (bc : (i : ℕ) → getD card i 0 < 256) (br : (i : ℕ) → getD root i 0 < 256) where
-  pub alone-refused : (v : Verdict) → v ≡ admitted upstream card root 2048 → (a : Answer) → v ≡ Refused a → Alone card root out a out
-  alone-refused v e a h = alone card root out a out own-words (refused card root out own-words bc br v e a h)
+module _ (pass : Pass) (card root out : Bytes) (bc : (i : ℕ) → getD card i 0 < 256) (br : (i : ℕ) → getD root i 0 < 256) where
+  pub alone-refused : (v : Verdict) → v ≡ admitted upstream card root 2048 → (a : Answer) → v ≡ Refused a → Alone pass card root out a out
+  alone-refused v e a h = alone pass card root out a out own-words (refused pass card root out own-words bc br v e a h)
 
-  module _ (is-sound : Admitted card root) where
+  module _ (is-admitted : Admitted card root) (op : Shortening) (p : op ≡ plainOf pass) where
+    pub admits : admitted (operationOf op) card root 2048 ≡ Sound
+    admits = admitted-alike (repeats (passOf op)) card root 2048 ∙ is-admitted
+
     abbrev Enough : List ℕ → Type 0
-    Enough words = FullAt Upstream card root 2048 is-sound bc br (room words) ≡ FullAt Upstream card root 2048 is-sound bc br 512
+    Enough words = FullAt op card root 2048 admits bc br (room words) ≡ FullAt op card root 2048 admits bc br 512
 
     pub many-enough : Enough own-words
     many-enough = refl
@@ -137,14 +159,15 @@ module _ (card root out : Bytes) (bc : (i : ℕ) → getD card i 0 < 256) (br : 
     -- neither has more pairs than there is room for
     pub few-enough : length card ≤ 593 → Enough (replicate 128 0)
     few-enough l =
-        few-full Upstream card root 2048 is-sound bc br 32 (omega arith) ∙ sym (few-full Upstream card root 2048 is-sound bc br 512 (omega arith))
+        few-full op card root 2048 admits bc br 32 (omega arith) ∙ sym (few-full op card root 2048 admits bc br 512 (omega arith))
 
     pub alone-kept : (words : List ℕ) → Enough words → (w : Written) (out′ : Bytes) (words′ : List ℕ)
-        → output w out′ words′ ≡ wholeOutput Upstream card root words out → (a : Answer) → a ≡ answerOf w (length out′) → Alone card root out a out′
+        → output w out′ words′ ≡ wholeOutput op card root words out → (a : Answer) → a ≡ answerOf w (length out′) → Alone pass card root out a out′
     alone-kept words n w out′ words′ o a f =
-        alone card root out a out′ own-words
-        (promised card root out own-words a out′ own-words bc br
-        (rw f (made card root out own-words bc br is-sound words n w out′ words′ o)))
+        alone pass card root out a out′ own-words
+        (promised pass card root out own-words a out′ own-words bc br
+        (rw f (made op (ap weightOf p ∙ plain-weight pass) card root out own-words bc br admits words n w out′ words′ o
+        ∙ ap (λ (q : Pass). shorten (asked q) card root out own-words) (ap passOf p ∙ pass-plain pass))))
 
 -- the answer, case by case
 pub answer-full : (w : Written) (place lent : ℕ) → w ≡ Full place → FullTable place ≡ answerOf w lent

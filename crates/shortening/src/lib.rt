@@ -2,7 +2,7 @@
 use answers::Answer;
 use answers::Verdict;
 use measuring::Written;
-use operation::Shortening;
+use operation::Pass;
 ghost use mathlib.Core.Path.{_≡_};
 ghost use Prim.Native.Nat.{_≤_};
 ghost use lib.ListN.{length};
@@ -24,8 +24,8 @@ fn answer_of(w: Written, lent: usize) -> Answer
 }
 
 // A table has the first 2048 of the work words: 512 pairs.
-pub fn shorten(card: &[u8], root: &[u8], out: &mut [u8], work: &mut [u32]) -> Answer
-    ensures { λ r. ⌜ Promise (now (card .entry)) (now (root .entry)) (now (out .entry)) (now (work .entry)) r (now (out .exit)) (now (work .exit)) ⌝ }
+pub fn shorten(pass: Pass, card: &[u8], root: &[u8], out: &mut [u8], work: &mut [u32]) -> Answer
+    ensures { λ r. ⌜ Promise pass (now (card .entry)) (now (root .entry)) (now (out .entry)) (now (work .entry)) r (now (out .exit)) (now (work .exit)) ⌝ }
 {
     let v = admission::admit(card, root, work.len());
     match v {
@@ -34,34 +34,34 @@ pub fn shorten(card: &[u8], root: &[u8], out: &mut [u8], work: &mut [u32]) -> An
             return a;
         }
     }
-    let w = measuring::write(Shortening::Upstream, card, root, out, &mut work[..2048]);
+    let w = measuring::write(operation::plain(pass), card, root, out, &mut work[..2048]);
     work::clear(work);
     answer_of(w, out.len())
 }
 
 // By 128 work words: a card of fewer than 594 bytes has at most 32 pairs.
-fn shorten_small(card: &[u8], root: &[u8], out: &mut [u8]) -> Answer
+fn shorten_small(pass: Pass, card: &[u8], root: &[u8], out: &mut [u8]) -> Answer
     requires { ⌜ Admitted (now card) (now root) × (length (now card) ≤ 593) ⌝ }
-    ensures { λ r. ⌜ Alone (now (card .entry)) (now (root .entry)) (now (out .entry)) r (now (out .exit)) ⌝ }
+    ensures { λ r. ⌜ Alone pass (now (card .entry)) (now (root .entry)) (now (out .entry)) r (now (out .exit)) ⌝ }
 {
     let mut work: [u32; 128] = [0; 128];
-    let w = measuring::write(Shortening::Upstream, card, root, out, &mut work);
+    let w = measuring::write(operation::plain(pass), card, root, out, &mut work);
     answer_of(w, out.len())
 }
 
 // By 2048 work words.
-fn shorten_large(card: &[u8], root: &[u8], out: &mut [u8]) -> Answer
+fn shorten_large(pass: Pass, card: &[u8], root: &[u8], out: &mut [u8]) -> Answer
     requires { ⌜ Admitted (now card) (now root) ⌝ }
-    ensures { λ r. ⌜ Alone (now (card .entry)) (now (root .entry)) (now (out .entry)) r (now (out .exit)) ⌝ }
+    ensures { λ r. ⌜ Alone pass (now (card .entry)) (now (root .entry)) (now (out .entry)) r (now (out .exit)) ⌝ }
 {
     let mut work: [u32; 2048] = [0; 2048];
-    let w = measuring::write(Shortening::Upstream, card, root, out, &mut work);
+    let w = measuring::write(operation::plain(pass), card, root, out, &mut work);
     answer_of(w, out.len())
 }
 
 // With work words of its own: what `shorten` answers with 2048. They are made once the card is admitted, and nobody sees them after the call.
-pub fn shorten_alone(card: &[u8], root: &[u8], out: &mut [u8]) -> Answer
-    ensures { λ r. ⌜ Alone (now (card .entry)) (now (root .entry)) (now (out .entry)) r (now (out .exit)) ⌝ }
+pub fn shorten_alone(pass: Pass, card: &[u8], root: &[u8], out: &mut [u8]) -> Answer
+    ensures { λ r. ⌜ Alone pass (now (card .entry)) (now (root .entry)) (now (out .entry)) r (now (out .exit)) ⌝ }
 {
     let v = admission::admit(card, root, 2048);
     match v {
@@ -71,7 +71,7 @@ pub fn shorten_alone(card: &[u8], root: &[u8], out: &mut [u8]) -> Answer
         }
     }
     if card.len() < 594 {
-        return shorten_small(card, root, out);
+        return shorten_small(pass, card, root, out);
     }
-    shorten_large(card, root, out)
+    shorten_large(pass, card, root, out)
 }

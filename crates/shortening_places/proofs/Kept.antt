@@ -16,9 +16,11 @@ use Rattle.wire.proofs.Numbers.{are-bytes}
 use Rattle.rast.specs.Operation.{upstream}
 use Rattle.rast.proofs.Tests.{by-test}
 use Rattle.outcome.specs.Outcome.{admitted, shorten}
-use Rattle.outcome.proofs.Accepted.{refused-number, admitted-sound}
+use Rattle.outcome.proofs.Accepted.{refused-number, admitted-alike, admitted-sound}
 use Rattle.places.specs.Listing.{Listing, listing, shortenListing}
-use Rattle.places.proofs.Listings.{names-hold, list-exact}
+use Rattle.places.proofs.Listings.{names-hold, length-most, list-exact}
+use Rattle.operation.specs.declared.Pass.{Pass}
+use Rattle.operation.specs.Passes.{repeats, asked}
 use Rattle.chains.specs.Chains.{room}
 use Rattle.placing.specs.declared.Placed.{Placed}
 use Rattle.placing.specs.Placing.{placing, placed}
@@ -27,52 +29,53 @@ use Rattle.shortening_places.specs.declared.Listed.{Listed}
 use Rattle.shortening_places.specs.Placed.{listedOf, Promise, Alone}
 
 -- what is answered is the definition's, so it keeps the promise
-promised : (card root out : Bytes) (work list : List ℕ) (r : Listed) (out′ : Bytes) (work′ list′ : List ℕ) → ((i : ℕ) → getD card i 0 < 256)
-    → ((i : ℕ) → getD root i 0 < 256) → listing (r .answer) (r .entries) out′ work′ list′ ≡ shortenListing upstream card root out work list
-    → Promise card root out work list r out′ work′ list′
-promised card root out work list r out′ work′ list′ bc br e =
+promised : (pass : Pass) (card root out : Bytes) (work list : List ℕ) (r : Listed) (out′ : Bytes) (work′ list′ : List ℕ) → ((i : ℕ) → getD card i 0 < 256)
+    → ((i : ℕ) → getD root i 0 < 256) → listing (r .answer) (r .entries) out′ work′ list′ ≡ shortenListing (asked pass) card root out work list
+    → Promise pass card root out work list r out′ work′ list′
+promised pass card root out work list r out′ work′ list′ bc br e =
     record {
       fixed = e;
       names = λ n h. rw (← ap (λ (x : Listing). x .out) e) at
-          (names-hold card root out work list (are-bytes card bc) (are-bytes root br) n (ap (λ (x : Listing). x .answer) (sym e) ∙ h));
+          (names-hold (repeats pass) card root out work list (are-bytes card bc) (are-bytes root br) n (ap (λ (x : Listing). x .answer) (sym e) ∙ h));
+      bound = λ n h. length-most (repeats pass) card root out work list (are-bytes card bc) (are-bytes root br) n (ap (λ (x : Listing). x .answer) (sym e) ∙ h);
       exact = λ n h. rw (← ap (λ (x : Listing). x .out) e, ← ap (λ (x : Listing). x .entries) e, ← ap (λ (x : Listing). x .list) e) at
-          (list-exact card root out work list (are-bytes card bc) (are-bytes root br) n (ap (λ (x : Listing). x .answer) (sym e) ∙ h));
+          (list-exact (repeats pass) card root out work list (are-bytes card bc) (are-bytes root br) n (ap (λ (x : Listing). x .answer) (sym e) ∙ h));
     }
 
 -- what is written of a card that is admitted, by words that have room for 512 pairs
-module _ (card root out : Bytes) (work list : List ℕ) (bc : (i : ℕ) → getD card i 0 < 256) (br : (i : ℕ) → getD root i 0 < 256)
-    (is-sound : admitted upstream card root (length work) ≡ Sound) (words : List ℕ) (enough : room words ≡ 512)
-    (p : Placed) (out′ : Bytes) (words′ list′ : List ℕ) (o : placing p out′ words′ list′ ≡ placed card root words list out) where
-  result : Result card root (length work) is-sound bc br words list out (placing p out′ words′ list′)
-  result = rw o (placed-sound card root (length work) is-sound bc br words list out)
+module _ (pass : Pass) (card root out : Bytes) (work list : List ℕ) (bc : (i : ℕ) → getD card i 0 < 256) (br : (i : ℕ) → getD root i 0 < 256)
+    (is-sound : admitted (asked pass) card root (length work) ≡ Sound) (words : List ℕ) (enough : room words ≡ 512)
+    (p : Placed) (out′ : Bytes) (words′ list′ : List ℕ) (o : placing p out′ words′ list′ ≡ placed pass card root words list out) where
+  result : Result pass card root (length work) is-sound bc br words list out (placing p out′ words′ list′)
+  result = rw o (placed-sound pass card root (length work) is-sound bc br words list out)
 
-  is-listing : (x : Option ℕ) → FullAt card root (length work) is-sound bc br 512 ≡ x
-      → listing (listedOf p .answer) (listedOf p .entries) out′ (replicate (length work) 0) list′ ≡ shortenListing upstream card root out work list
+  is-listing : (x : Option ℕ) → FullAt pass card root (length work) is-sound bc br 512 ≡ x
+      → listing (listedOf p .answer) (listedOf p .entries) out′ (replicate (length work) 0) list′ ≡ shortenListing (asked pass) card root out work list
   unfolding shortenListing shorten
   is-listing none q =
       rw (result .answer-is, result .out-is, result .list-is, enough, is-sound, q)
-      (by-test (ltb (length out) (length (Whole card root (length work) is-sound bc br))) (λ t. rw t)
-      (λ t. by-test (ltb (length list) (2 * length (Places card root (length work) is-sound bc br))) (λ u. rw (t, u)) (λ u. rw (t, u))))
+      (by-test (ltb (length out) (length (Whole pass card root (length work) is-sound bc br))) (λ t. rw t)
+      (λ t. by-test (ltb (length list) (2 * length (Places pass card root (length work) is-sound bc br))) (λ u. rw (t, u)) (λ u. rw (t, u))))
   is-listing (some place) q = rw (result .answer-is, result .out-is, result .list-is, enough, is-sound, q)
 
-  pub made : listing (listedOf p .answer) (listedOf p .entries) out′ (replicate (length work) 0) list′ ≡ shortenListing upstream card root out work list
-  made = is-listing (FullAt card root (length work) is-sound bc br 512) refl
+  pub made : listing (listedOf p .answer) (listedOf p .entries) out′ (replicate (length work) 0) list′ ≡ shortenListing (asked pass) card root out work list
+  made = is-listing (FullAt pass card root (length work) is-sound bc br 512) refl
 
-module _ (card root out : Bytes) (work list : List ℕ) (bc : (i : ℕ) → getD card i 0 < 256) (br : (i : ℕ) → getD root i 0 < 256)
+module _ (pass : Pass) (card root out : Bytes) (work list : List ℕ) (bc : (i : ℕ) → getD card i 0 < 256) (br : (i : ℕ) → getD root i 0 < 256)
     (v : Verdict) (e : v ≡ admitted upstream card root (length work)) where
-  pub refused : (a : Answer) → v ≡ Refused a → Promise card root out work list (record { answer = a; entries = 0 }) out work list
+  pub refused : (a : Answer) → v ≡ Refused a → Promise pass card root out work list (record { answer = a; entries = 0 }) out work list
   unfolding shortenListing shorten
   refused a h =
-      let r : admitted upstream card root (length work) ≡ Refused a = sym e ∙ h in
-      promised card root out work list (record { answer = a; entries = 0 }) out work list bc br
-      (rw (r, ne-eqb (number a) 0 (refused-number upstream card root (length work) a r)))
+      let r : admitted (asked pass) card root (length work) ≡ Refused a = admitted-alike (repeats pass) card root (length work) ∙ sym e ∙ h in
+      promised pass card root out work list (record { answer = a; entries = 0 }) out work list bc br
+      (rw (r, ne-eqb (number a) 0 (refused-number (asked pass) card root (length work) a r)))
 
   module _ (h : v ≡ Sound) where
-    is-sound : admitted upstream card root (length work) ≡ Sound
-    is-sound = sym e ∙ h
+    is-sound : admitted (asked pass) card root (length work) ≡ Sound
+    is-sound = admitted-alike (repeats pass) card root (length work) ∙ sym e ∙ h
 
     pub enough : 2048 ≤ length work
-    enough = admitted-sound upstream card root (length work) is-sound .enough
+    enough = admitted-sound (asked pass) card root (length work) is-sound .enough
 
     pub lent : 2048 ≡ length (take 2048 work)
     lent = let a = length-take 2048 work in let b = enough in omega arith
@@ -80,10 +83,10 @@ module _ (card root out : Bytes) (work list : List ℕ) (bc : (i : ℕ) → getD
     most : room (take 2048 work) ≡ 512
     most = ap (λ (n : ℕ). min (n / 4) 65535) (sym lent)
 
-    module _ (p : Placed) (out′ : Bytes) (words list′ : List ℕ) (o : placing p out′ words list′ ≡ placed card root (take 2048 work) list out) where
+    module _ (p : Placed) (out′ : Bytes) (words list′ : List ℕ) (o : placing p out′ words list′ ≡ placed pass card root (take 2048 work) list out) where
       words-all : length (words ++ drop 2048 work) ≡ length work
       words-all =
-          let r = result card root out work list bc br is-sound (take 2048 work) most p out′ words list′ o in
+          let r = result pass card root out work list bc br is-sound (take 2048 work) most p out′ words list′ o in
           let a : length words ≡ length (take 2048 work) = r .words-long in
           let b = length-append words (drop 2048 work) in
           let c = length-drop 2048 work in
@@ -92,39 +95,41 @@ module _ (card root out : Bytes) (work list : List ℕ) (bc : (i : ℕ) → getD
           omega arith
 
       pub kept : (work′ : List ℕ) → work′ ≡ replicate (length (words ++ drop 2048 work)) 0 → (r : Listed) → r ≡ listedOf p
-          → Promise card root out work list r out′ work′ list′
+          → Promise pass card root out work list r out′ work′ list′
       kept work′ z r f =
-          promised card root out work list r out′ work′ list′ bc br
-          (rw (f, z ∙ ap (λ (n : ℕ). replicate n 0) words-all) (made card root out work list bc br is-sound (take 2048 work) most p out′ words list′ o))
+          promised pass card root out work list r out′ work′ list′ bc br
+          (rw (f, z ∙ ap (λ (n : ℕ). replicate n 0) words-all) (made pass card root out work list bc br is-sound (take 2048 work) most p out′ words list′ o))
 
 -- by words of its own
 abbrev own-words : List ℕ
 own-words = replicate 2048 0
 
-alone : (card root out : Bytes) (list : List ℕ) (r : Listed) (out′ : Bytes) (work′ list′ : List ℕ) → Promise card root out own-words list r out′ work′ list′
-    → Alone card root out list r out′ list′
-alone card root out list r out′ work′ list′ p =
+alone : (pass : Pass) (card root out : Bytes) (list : List ℕ) (r : Listed) (out′ : Bytes) (work′ list′ : List ℕ)
+    → Promise pass card root out own-words list r out′ work′ list′
+    → Alone pass card root out list r out′ list′
+alone pass card root out list r out′ work′ list′ p =
     record {
       answer-is = ap (λ (x : Listing). x .answer) (p .fixed);
       entries-are = ap (λ (x : Listing). x .entries) (p .fixed);
       out-is = ap (λ (x : Listing). x .out) (p .fixed);
       list-is = ap (λ (x : Listing). x .list) (p .fixed);
       names = p .names;
+      bound = p .bound;
       exact = p .exact;
     }
 
-module _ (card root out : Bytes) (list : List ℕ) (bc : (i : ℕ) → getD card i 0 < 256) (br : (i : ℕ) → getD root i 0 < 256)
+module _ (pass : Pass) (card root out : Bytes) (list : List ℕ) (bc : (i : ℕ) → getD card i 0 < 256) (br : (i : ℕ) → getD root i 0 < 256)
     (v : Verdict) (e : v ≡ admitted upstream card root 2048) where
-  pub alone-refused : (a : Answer) → v ≡ Refused a → Alone card root out list (record { answer = a; entries = 0 }) out list
+  pub alone-refused : (a : Answer) → v ≡ Refused a → Alone pass card root out list (record { answer = a; entries = 0 }) out list
   alone-refused a h =
-      alone card root out list (record { answer = a; entries = 0 }) out own-words list (refused card root out own-words list bc br v e a h)
+      alone pass card root out list (record { answer = a; entries = 0 }) out own-words list (refused pass card root out own-words list bc br v e a h)
 
-  pub alone-kept : v ≡ Sound → (p : Placed) (out′ : Bytes) (words list′ : List ℕ) → placing p out′ words list′ ≡ placed card root own-words list out
-      → (r : Listed) → r ≡ listedOf p → Alone card root out list r out′ list′
+  pub alone-kept : v ≡ Sound → (p : Placed) (out′ : Bytes) (words list′ : List ℕ) → placing p out′ words list′ ≡ placed pass card root own-words list out
+      → (r : Listed) → r ≡ listedOf p → Alone pass card root out list r out′ list′
   alone-kept h p out′ words list′ o r f =
-      alone card root out list r out′ own-words list′
-      (promised card root out own-words list r out′ own-words list′ bc br
-      (rw f (made card root out own-words list bc br (sym e ∙ h) own-words refl p out′ words list′ o)))
+      alone pass card root out list r out′ own-words list′
+      (promised pass card root out own-words list r out′ own-words list′ bc br
+      (rw f (made pass card root out own-words list bc br (admitted-alike (repeats pass) card root 2048 ∙ sym e ∙ h) own-words refl p out′ words list′ o)))
 
 -- the answer, case by case
 pub listed-same : {p q : Placed} → p ≡ q → listedOf q ≡ listedOf p

@@ -2,15 +2,17 @@
 -- Assumes nothing: these are definitions.
 use mathlib.Core.Path.{_≡_}
 use mathlib.Core.List.{List}
-use Prim.Native.Nat.{ℕ}
-use lib.ListN.{take, replicate}
+use Prim.Native.Nat.{ℕ, _*_, _≤_}
+use lib.ListN.{length, take, replicate}
 use Rattle.answers.specs.declared.Answer.{Answer}
 use Rattle.answers.specs.declared.Answer.the-variants.{Shortened, FullTable, NoSpace, ShortList}
 use Rattle.wire.specs.Numbers.{Bytes}
-use Rattle.rast.specs.Operation.{upstream}
+use Rattle.size.specs.Bound.{times}
 use Rattle.points.specs.Points.{NamesHold}
 use Rattle.places.specs.Listing.{Listing, listing, shortenListing}
 use Rattle.places.specs.Spots.{ListExact}
+use Rattle.operation.specs.declared.Pass.{Pass}
+use Rattle.operation.specs.Passes.{asked}
 use Rattle.placing.specs.declared.Placed.{Placed}
 use Rattle.placing.specs.declared.Placed.the-variants.{Full, NoRoom, FewWords, Done}
 use Rattle.shortening_places.specs.declared.Listed.{Listed}
@@ -25,23 +27,25 @@ listedOf NoRoom = listed NoSpace 0
 listedOf FewWords = listed ShortList 0
 listedOf (Done length entries) = listed (Shortened length) entries
 
-pub record Promise (card root out : Bytes) (work list : List ℕ) (r : Listed) (out′ : Bytes) (work′ list′ : List ℕ) : Type 0 where
+pub record Promise (pass : Pass) (card root out : Bytes) (work list : List ℕ) (r : Listed) (out′ : Bytes) (work′ list′ : List ℕ) : Type 0 where
   -- demands 1 and 2: whatever is lent, the answer, the number of entries, the out bytes, the work words and the list are the definition's
-  pub fixed : listing (r .answer) (r .entries) out′ work′ list′ ≡ shortenListing upstream card root out work list
-  -- demand 3
-  pub names : (n : ℕ) → r .answer ≡ Shortened n → NamesHold upstream card root (take n out′)
+  pub fixed : listing (r .answer) (r .entries) out′ work′ list′ ≡ shortenListing (asked pass) card root out work list
+  -- demand 3, and how long an output can be
+  pub names : (n : ℕ) → r .answer ≡ Shortened n → NamesHold (asked pass) card root (take n out′)
+  pub bound : (n : ℕ) → r .answer ≡ Shortened n → n ≤ times (asked pass) * length card
   -- and the list is exact: the shortened points of demand 3 and the uses put ahead, each at its offset
   pub exact : (n : ℕ) → r .answer ≡ Shortened n → ListExact card (take n out′) (r .entries) list′
 
 -- as if 2,048 work words that are zero were lent
-abbrev pub called : (card root out : Bytes) → List ℕ → Listing
-called card root out list = shortenListing upstream card root out (replicate 2048 0) list
+abbrev pub called : Pass → (card root out : Bytes) → List ℕ → Listing
+called pass card root out list = shortenListing (asked pass) card root out (replicate 2048 0) list
 
 -- the same of a call with work words of its own
-pub record Alone (card root out : Bytes) (list : List ℕ) (r : Listed) (out′ : Bytes) (list′ : List ℕ) : Type 0 where
-  pub answer-is : r .answer ≡ called card root out list .answer
-  pub entries-are : r .entries ≡ called card root out list .entries
-  pub out-is : out′ ≡ called card root out list .out
-  pub list-is : list′ ≡ called card root out list .list
-  pub names : (n : ℕ) → r .answer ≡ Shortened n → NamesHold upstream card root (take n out′)
+pub record Alone (pass : Pass) (card root out : Bytes) (list : List ℕ) (r : Listed) (out′ : Bytes) (list′ : List ℕ) : Type 0 where
+  pub answer-is : r .answer ≡ called pass card root out list .answer
+  pub entries-are : r .entries ≡ called pass card root out list .entries
+  pub out-is : out′ ≡ called pass card root out list .out
+  pub list-is : list′ ≡ called pass card root out list .list
+  pub names : (n : ℕ) → r .answer ≡ Shortened n → NamesHold (asked pass) card root (take n out′)
+  pub bound : (n : ℕ) → r .answer ≡ Shortened n → n ≤ times (asked pass) * length card
   pub exact : (n : ℕ) → r .answer ≡ Shortened n → ListExact card (take n out′) (r .entries) list′

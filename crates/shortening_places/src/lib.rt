@@ -1,6 +1,7 @@
 // The public call with a lent list of places. And the same with work words of its own.
 use answers::Answer;
 use answers::Verdict;
+use operation::Pass;
 use placing::Placed;
 ghost use mathlib.Core.Path.{_≡_};
 ghost use Rattle.shortening_places.specs.Placed.{listedOf, Promise, Alone};
@@ -36,13 +37,14 @@ fn listed_of(p: Placed) -> Listed
 
 // A table has the first 2048 of the work words: 512 pairs.
 pub fn shorten_places(
+    pass: Pass,
     card: &[u8],
     root: &[u8],
     out: &mut [u8],
     work: &mut [u32],
     list: &mut [u32],
 ) -> Listed
-    ensures { λ r. ⌜ Promise (now (card .entry)) (now (root .entry)) (now (out .entry)) (now (work .entry)) (now (list .entry))
+    ensures { λ r. ⌜ Promise pass (now (card .entry)) (now (root .entry)) (now (out .entry)) (now (work .entry)) (now (list .entry))
         r (now (out .exit)) (now (work .exit)) (now (list .exit)) ⌝ }
 {
     let v = admission::admit(card, root, work.len());
@@ -55,14 +57,20 @@ pub fn shorten_places(
             };
         }
     }
-    let p = placing::write_places(card, root, out, &mut work[..2048], list);
+    let p = placing::write_places(pass, card, root, out, &mut work[..2048], list);
     work::clear(work);
     listed_of(p)
 }
 
 // With work words of its own: what `shorten_places` answers with 2048. They are made once the card is admitted, and nobody sees them after the call.
-pub fn shorten_places_alone(card: &[u8], root: &[u8], out: &mut [u8], list: &mut [u32]) -> Listed
-    ensures { λ r. ⌜ Alone (now (card .entry)) (now (root .entry)) (now (out .entry)) (now (list .entry)) r (now (out .exit)) (now (list .exit)) ⌝ }
+pub fn shorten_places_alone(
+    pass: Pass,
+    card: &[u8],
+    root: &[u8],
+    out: &mut [u8],
+    list: &mut [u32],
+) -> Listed
+    ensures { λ r. ⌜ Alone pass (now (card .entry)) (now (root .entry)) (now (out .entry)) (now (list .entry)) r (now (out .exit)) (now (list .exit)) ⌝ }
 {
     let v = admission::admit(card, root, 2048);
     match v {
@@ -75,5 +83,5 @@ pub fn shorten_places_alone(card: &[u8], root: &[u8], out: &mut [u8], list: &mut
         }
     }
     let mut work: [u32; 2048] = [0; 2048];
-    listed_of(placing::write_places(card, root, out, &mut work, list))
+    listed_of(placing::write_places(pass, card, root, out, &mut work, list))
 }

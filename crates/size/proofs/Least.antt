@@ -1,6 +1,6 @@
--- 42 is the least number that will do: a module whose output is longer than 41 times itself, by computation. Assumes nothing.
+-- 42 and 4 are the least numbers that will do: modules whose outputs are longer than 41 times and 3 times themselves, by computation. Assumes nothing.
 use mathlib.Core.Path.{_≡_, refl}
-use mathlib.Core.List.{[]}
+use mathlib.Core.List.{[], _∷_}
 use mathlib.Core.Bool.{true}
 use Prim.Native.Nat.{ℕ, zero, suc, _*_, _≤_}
 use native.Mathlib.Omega.{arith}
@@ -8,11 +8,11 @@ use lib.ListN.{replicate}
 use lib.Dec.{ltb, lit≤}
 use borrow.Author.Tests.{ltb-true}
 use Rattle.wire.specs.Numbers.{sameBytes}
-use Rattle.records.specs.Record.{Record, leaf, node, nil, _▸_, _▸▸_, deep, nth, setNth, FoldLeft, mapAll}
-use Rattle.records.specs.Kinds.{expr, mod′, rowOf, contentAt}
-use Rattle.records.proofs.Fits.{Fits}
-use Rattle.rast.specs.Path.{Path, Global, MSel, samePath}
-use Rattle.rast.specs.Operation.{upstream}
+use Rattle.records.specs.Record.{Record, Records, leaf, node, nil, _▸_, _▸▸_, deep, nth, setNth, FoldLeft, mapAll}
+use Rattle.records.specs.Kinds.{type, expr, mod′, any, rowOf, contentAt}
+use Rattle.records.proofs.Fits.{Fits, FitsAll}
+use Rattle.rast.specs.Path.{Name, Path, Global, MSel, samePath}
+use Rattle.rast.specs.Operation.{Operation, upstream, straight}
 use Rattle.rast.specs.Mod.{Mod·Fold}
 use Rattle.rast.specs.Fold.{Fold}
 use Rattle.rast.specs.Replace.{Replace}
@@ -30,9 +30,18 @@ Text = leaf 0x01 []
 abbrev Kept : Record
 Kept = leaf 0x03 []
 
--- ExprFromType(TypeFromPath(::name)), the name n bytes long, in so many blocks
-abbrev typed : ℕ → Record
-typed n = node 0x41 (node 0x2D (MSel Global (replicate n 97) ▸ nil) ▸ nil)
+-- TypeFromPath(::name)
+abbrev named : Name → Record
+named n = node 0x2D (MSel Global n ▸ nil)
+
+-- so many of them, each with a name of its own
+abbrev several : ℕ → Records
+several zero = nil
+several (suc n) = named (n ∷ []) ▸ several n
+
+-- ExprFromType(tpe), in so many blocks
+abbrev typed : Record → Record
+typed t = node 0x41 (t ▸ nil)
 
 abbrev blocks : ℕ → Record → Record
 blocks zero e = e
@@ -45,12 +54,29 @@ around e =
     ▸ node 0x7D (Text ▸ node 0x02 nil ▸ node 0x02 nil ▸ node 0x02 nil ▸ node 0x02 (e ▸ nil) ▸ nil) ▸ nil) ▸ nil) ▸ nil) ▸ nil)
 
 -- as deep as may be: the type is under 39 expressions, so it is wrapped 40 times, and its name stands once more in the use
-abbrev worst : Record
-worst = around (blocks 38 (typed 13404))
+abbrev deepest : Record
+deepest = blocks 38 (typed (named (replicate 13404 97)))
 
-typed-fits : (n : ℕ) → Fits (typed n) expr
+-- a TupleType: each type of 25 bytes, wrapped once and with its use, takes 82, which is 7 more than 3 times 25; the rest is 114 bytes
+abbrev widest : Record
+widest = typed (node 0x33 (node 0x02 (several 33) ▸ nil))
+
+named-fits : (n : Name) → Fits (named n) type
 unfolding Fits rowOf contentAt
-typed-fits n = (refl, ((refl, ((refl, ((refl, tt), ((refl, refl), tt))), tt)), tt))
+named-fits n = (refl, ((refl, ((refl, tt), ((refl, refl), tt))), tt))
+
+several-fit : (n : ℕ) → FitsAll (several n) (any type)
+unfolding Fits
+several-fit zero = tt
+several-fit (suc n) = (named-fits (n ∷ []), several-fit n)
+
+typed-fits : (t : Record) → Fits t type → Fits (typed t) expr
+unfolding Fits rowOf contentAt
+typed-fits t f = (refl, (f, tt))
+
+widest-fits : Fits widest expr
+unfolding Fits rowOf contentAt
+widest-fits = typed-fits (node 0x33 (node 0x02 (several 33) ▸ nil)) (refl, ((refl, several-fit 33), tt))
 
 blocks-fit : (n : ℕ) (e : Record) → Fits e expr → Fits (blocks n e) expr
 unfolding Fits rowOf contentAt
@@ -100,20 +126,32 @@ around-fits e f = (
   ),
 )
 
-worst-deep : deep worst ≤ 48
-unfolding deep
-worst-deep = lit≤ tt
+-- that an output is at most k times as large
+abbrev pub Within : Operation → ℕ → Type 0
+Within op k = (root : Path) (m : Record) → Fits m mod′ → deep m ≤ 48 → size (apply op root m) ≤ k * size m
 
-worst-size : ltb (41 * size worst) (size (apply upstream Global worst)) ≡ true
+-- is not so if the output of one module is larger
+larger : (op : Operation) (k : ℕ) (e : Record) → Fits e expr → deep (around e) ≤ 48 → ltb (k * size (around e)) (size (apply op Global (around e))) ≡ true
+    → Within op k → ⊥
+larger op k e f d l h =
+    let b = h Global (around e) (around-fits e f) d in
+    let w = ltb-true (k * size (around e)) (size (apply op Global (around e))) l in
+    omega arith
+
+sizes : (ltb (41 * size (around deepest)) (size (apply upstream Global (around deepest))) ≡ true)
+    × (ltb (3 * size (around widest)) (size (apply straight Global (around widest))) ≡ true)
 unfolding sameBytes _▸▸_ deep nth setNth FoldLeft mapAll samePath Mod·Fold Fold Replace VisitTypeParams VisitFn VisitTopFn VisitModMapping VisitMod
     ReplaceType ReplaceExpr ReplaceTypeParams ReplaceFn ReplaceTopFn ReplaceModDecl ReplaceMod get set isAmong finalPath Add ToFinalReplacement ToUseStatements
     VisitTypeSingle VisitExprSingle VisitModDeclSingle replaces ReplaceTypeSingle ReplaceExprSingle PathSimplifier mappings pathsToRemove imports
     applyPrefix apply size
-worst-size = refl
+sizes = (refl, refl)
 
--- so 41 is not a bound
-pub not-41 : ((root : Path) (m : Record) → Fits m mod′ → deep m ≤ 48 → size (apply upstream root m) ≤ 41 * size m) → ⊥
-not-41 h =
-    let b = h Global worst (around-fits (blocks 38 (typed 13404)) (blocks-fit 38 (typed 13404) (typed-fits 13404))) worst-deep in
-    let w = ltb-true (41 * size worst) (size (apply upstream Global worst)) worst-size in
-    omega arith
+-- so 41 is not a bound where a Fn's types are walked again
+pub not-41 : Within upstream 41 → ⊥
+unfolding deep
+not-41 = larger upstream 41 deepest (blocks-fit 38 _ (typed-fits _ (named-fits (replicate 13404 97)))) (lit≤ tt) (sizes .0)
+
+-- nor 3 where they are not
+pub not-3 : Within straight 3 → ⊥
+unfolding deep
+not-3 = larger straight 3 widest widest-fits (lit≤ tt) (sizes .1)

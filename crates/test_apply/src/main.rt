@@ -2,6 +2,7 @@
 // the text's ToString has it: a Text in quotes, a Kept in hexadecimal, a List in brackets, any other record's fields in parentheses behind its kind.
 use answers::Answer;
 use libc::STDOUT_FILENO;
+use operation::Pass;
 use test_text::Line;
 
 fn say(text: &[u8]) {
@@ -61,7 +62,7 @@ fn say_records(s: &[u8], left: usize) {
 fn shorten(card: &[u8], root: &[u8]) {
     let mut out = [0u8; 65536];
     let mut work = [0u32; 2048];
-    let a = shortening::shorten(card, root, &mut out, &mut work);
+    let a = shortening::shorten(Pass::Upstream, card, root, &mut out, &mut work);
     match a {
         Answer::Shortened(n) => {
             say_record(wire::part(&out, 0, n), 100);

@@ -4,12 +4,13 @@ use std::env;
 use std::fs;
 use std::process::ExitCode;
 use yardstick::stated::{self, Stated};
-use yardstick::text::{self, digits};
-use yardstick::{own, tree, walk, Answer, MOST_CARD, MOST_TIMES, WORDS};
+use yardstick::text::{self, digits, Vector};
+use yardstick::{own, tree, walk, Operation, MOST_CARD, MOST_ENTRIES, MOST_TIMES, WORDS};
 
 const USAGE: &str = "\
-gate batch VECTORS LISTS FOLDER    the vectors, cases that document 01 states, the cards of own.rs, and cases with lists
-gate apply FOLDER                  the four cases of TestApply";
+gate batch VECTORS LISTS STRAIGHT FOLDER    the vectors, cases that document 01 states, the cards of own.rs,
+                                            then cases with lists, and then those of straight shortening
+gate apply FOLDER                           the four cases of TestApply";
 
 const CRATE: [u8; 6] = [2, 0, 0, 0, 0x11, 0];
 
@@ -41,6 +42,19 @@ const NO_LISTS: [&str; 2] = [
     "old 020000001100 09000000610003000000010061 13 2048 y",
 ];
 
+const NO_STRAIGHT: &str =
+    "no case: write straight ROOT CARD OUTLEN WORKLEN PLACES COUNTS in less than 262144 \
+characters, PLACES a number of words or x for no list, COUNTS x";
+
+/// Cases of straight shortening that have too few fields, or other ones.
+const NO_STRAIGHTS: [&str; 5] = [
+    "straight 020000001100 09000000610003000000010061 13 2048",
+    "straight 020000001100 09000000610003000000010061 13 2048 x",
+    "straight 020000001100 09000000610003000000010061 13 2048 y x",
+    "straight 020000001100 09000000610003000000010061 13 2048 0 4",
+    "straight 020000001100 09000000610003000000010061 13 2048 0 x x",
+];
+
 /// Module m with `use ::B` and `impl ::B {}`: the use put ahead has the bytes of the card's own.
 const OWN_USE: &str = "7200000060000200000001000200000003000300000001006d590000000200220000006a001c000000800003000000030001\
 0f0000001300020000001000030000000100422d0000006700270000007a00020000000200150000002d000f000000130002000000100003000000010042020000000200";
@@ -58,20 +72,8 @@ impl Lines {
         self.answers += &format!("{answer}\n");
     }
 
-    fn put_case(
-        &mut self,
-        root: &[u8],
-        card: &[u8],
-        out: usize,
-        words: usize,
-        answer: Answer,
-        output: &[u8],
-    ) {
-        let answer = match answer {
-            Ok(length) => format!("0 {length} {}", digits(output)),
-            Err((number, place)) => format!("{number} {place}"),
-        };
-        self.put(&format!("{} {} {out} {words}", digits(root), digits(card)), &answer);
+    fn put_case(&mut self, case: &Vector) {
+        self.put(&case.question(), &case.answer());
     }
 
     fn write(&self, folder: &str) -> Result<(), String> {
@@ -84,78 +86,150 @@ impl Lines {
     }
 }
 
-/// The number of entries and the list, as batch writes them; no list is `x x`.
-fn shown_list(lent: Option<usize>, list: &[u32]) -> String {
-    let words: Vec<String> = list.iter().map(u32::to_string).collect();
-    match lent {
-        None => "x x".to_string(),
-        Some(_) if list.is_empty() => "0 -".to_string(),
-        Some(_) => format!("{} {}", list.len() / 2, words.join(",")),
+/// A case whose answer is stated, without a list.
+fn of_stated(operation: Option<Operation>, case: Stated) -> Vector {
+    let Stated { card, out, words, answer, output, .. } = case;
+    let root = CRATE.to_vec();
+    Vector { operation, root, card, out, words, lent: None, answer, output, list: Vec::new() }
+}
+
+/// A card of own.rs, lent just what it takes. Its answer is that of the two in Rust, which must agree.
+fn of_own(operation: Operation, case: own::Case) -> Result<Vector, String> {
+    let own::Case { sort, root, card, words } = case;
+    let [first, second] = [tree::shorten_places, walk::shorten_places].map(|shorten| {
+        let (mut out, mut list) = (vec![0; MOST_CARD * MOST_TIMES], vec![0; 2 * MOST_ENTRIES]);
+        let answer = shorten(operation, &card, &root, &mut out, words, &mut list);
+        let (length, entries) = answer.unwrap_or((0, 0));
+        out.truncate(length);
+        list.truncate(2 * entries);
+        (answer, out, list)
+    });
+    if first != second {
+        return Err(format!("the two in Rust differ at {sort}"));
     }
+    let (answer, output, list) = first;
+    let answer = answer.map(|(length, _)| length);
+    let (operation, out, lent) = (Some(operation), output.len(), Some(list.len()));
+    Ok(Vector { operation, root, card, out, words, lent, answer, output, list })
+}
+
+/// The same case without a list; the plain one, without its operation too; and a case that is refused at place 0.
+fn without_list(case: &Vector) -> Vector {
+    Vector { lent: None, list: Vec::new(), ..case.clone() }
+}
+
+fn plain(case: &Vector) -> Vector {
+    Vector { operation: None, ..without_list(case) }
+}
+
+fn refused(number: u32, case: Vector) -> Vector {
+    Vector { answer: Err((number, 0)), output: Vec::new(), list: Vec::new(), ..case }
+}
+
+/// With one byte too few; there is one at least.
+fn no_space(case: &Vector) -> Vector {
+    refused(9, Vector { out: case.out - 1, ..case.clone() })
+}
+
+/// With one word too few; there is one at least.
+fn short_list(case: &Vector) -> Vector {
+    refused(10, Vector { lent: case.lent.map(|words| words - 1), ..case.clone() })
+}
+
+/// A card whose own use is that of the pass, with lists of several lengths and with none.
+fn put_own_use(lines: &mut Lines, operation: Operation) {
+    let card = text::bytes(OWN_USE).expect("hexadecimal digits");
+    let mut output = vec![0; MOST_CARD * MOST_TIMES];
+    let length = tree::shorten(operation, &card, &CRATE, &mut output, WORDS).expect("a sound card");
+    output.truncate(length);
+    let case = Vector {
+        operation: Some(operation),
+        root: CRATE.to_vec(),
+        card,
+        out: length,
+        words: WORDS,
+        lent: Some(4),
+        answer: Ok(length),
+        output,
+        list: vec![31, 3, 125, 1],
+    };
+    lines.put_case(&case);
+    lines.put_case(&short_list(&case));
+    lines.put_case(&Vector { lent: Some(5), ..case.clone() });
+    lines.put_case(&without_list(&case));
 }
 
 /// The vectors with lists, a card whose own use is that of the pass, and lines that are no such cases.
 fn put_lists(lines: &mut Lines, lists: &str) -> Result<(), String> {
-    for v in text::places(lists)? {
-        let lent = v.lent.map_or("x".to_string(), |n| n.to_string());
-        let answer = match v.answer {
-            Ok(length) => format!("0 {length} {} {}", digits(&v.output), shown_list(v.lent, &v.list)),
-            Err((number, place)) => format!("{number} {place}"),
-        };
-        lines.put(
-            &format!("old {} {} {} {} {lent}", digits(&v.root), digits(&v.card), v.out, v.words),
-            &answer,
-        );
-    }
-    let card = text::bytes(OWN_USE).expect("hexadecimal digits");
-    let mut out = vec![0; MOST_CARD * MOST_TIMES];
-    let length = tree::shorten(&card, &CRATE, &mut out, WORDS).expect("a sound card");
-    let output = digits(&out[..length]);
-    for (lent, list) in
-        [(Some(4), &[31, 3, 125, 1][..]), (Some(3), &[]), (Some(5), &[31, 3, 125, 1]), (None, &[])]
-    {
-        let answer = match (lent, list) {
-            (Some(_), []) => "10 0".to_string(),
-            _ => format!("0 {length} {output} {}", shown_list(lent, list)),
-        };
-        let lent = lent.map_or("x".to_string(), |n: usize| n.to_string());
-        lines.put(&format!("old {} {OWN_USE} {length} {WORDS} {lent}", digits(&CRATE)), &answer);
-    }
+    text::places(lists)?.iter().for_each(|v| lines.put_case(v));
+    put_own_use(lines, Operation::Upstream);
     for line in NO_LISTS {
         lines.put(line, NO_LIST);
     }
     Ok(())
 }
 
-fn batch(vectors: &str, lists: &str, folder: &str) -> Result<(), String> {
-    let mut lines = Lines::default();
-    for v in text::vectors(vectors)? {
-        lines.put_case(&v.root, &v.card, v.out, v.words, v.answer, &v.output);
-    }
-    for Stated { card, out, words, answer, output, .. } in
-        stated::limits().into_iter().chain(stated::wrong_ports())
-    {
-        lines.put_case(&CRATE, &card, out, words, answer, &output);
-    }
-    let (mut first, mut second) = (vec![0; MOST_CARD * MOST_TIMES], vec![0; MOST_CARD * MOST_TIMES]);
-    for (i, case) in own::cases().iter().enumerate() {
-        let answer = tree::shorten(&case.card, &case.root, &mut first, case.words);
-        let length = answer.unwrap_or(0);
-        if walk::shorten(&case.card, &case.root, &mut second, case.words) != answer
-            || first[..length] != second[..length]
-        {
-            return Err(format!("the two in Rust differ at {}", case.sort));
+/// Cards of own.rs with lists, now and then without one, or with too few bytes or words.
+fn put_own(lines: &mut Lines, operation: Operation, cases: Vec<own::Case>) -> Result<(), String> {
+    for (i, case) in cases.into_iter().enumerate() {
+        let case = of_own(operation, case)?;
+        lines.put_case(&case);
+        if i % 10 == 0 {
+            lines.put_case(&without_list(&case));
+            if !case.output.is_empty() {
+                lines.put_case(&no_space(&case));
+            }
+            if !case.list.is_empty() {
+                lines.put_case(&short_list(&case));
+            }
         }
-        lines.put_case(&case.root, &case.card, length, case.words, answer, &first[..length]);
-        if i % 10 == 0 && length > 0 {
-            lines.put_case(&case.root, &case.card, length - 1, case.words, Err((9, 0)), &[]);
+    }
+    Ok(())
+}
+
+/// The vectors of straight shortening, cases whose answers are stated, the cards of own.rs, a card whose own use
+/// is that of the pass, and lines that are no such cases; of what tells the operations apart the old one's too.
+fn put_straight(lines: &mut Lines, straight: &str) -> Result<(), String> {
+    const STRAIGHT: Operation = Operation::Straight;
+    text::straight(straight)?.iter().for_each(|v| lines.put_case(v));
+    for case in stated::limits().into_iter().chain(stated::wrong_ports(STRAIGHT)) {
+        lines.put_case(&of_stated(Some(STRAIGHT), case));
+    }
+    for operation in Operation::BOTH {
+        for case in stated::told_apart(operation) {
+            lines.put_case(&of_stated(Some(operation), case));
+        }
+        put_own(lines, operation, own::differing())?;
+    }
+    put_own(lines, STRAIGHT, own::cases())?;
+    put_own_use(lines, STRAIGHT);
+    // What is past the end of a case.
+    let least = of_stated(Some(STRAIGHT), stated::limits().swap_remove(2));
+    lines.put(&format!("{} = anything", least.question()), &least.answer());
+    for line in NO_STRAIGHTS {
+        lines.put(line, NO_STRAIGHT);
+    }
+    Ok(())
+}
+
+fn batch(vectors: &str, lists: &str, straight: &str, folder: &str) -> Result<(), String> {
+    let mut lines = Lines::default();
+    text::vectors(vectors)?.iter().for_each(|v| lines.put_case(v));
+    for case in stated::limits().into_iter().chain(stated::wrong_ports(Operation::Upstream)) {
+        lines.put_case(&of_stated(None, case));
+    }
+    for (i, case) in own::cases().into_iter().enumerate() {
+        let case = plain(&of_own(Operation::Upstream, case)?);
+        lines.put_case(&case);
+        if i % 10 == 0 && !case.output.is_empty() {
+            lines.put_case(&no_space(&case));
         }
     }
     // What is past the room, and past the end of a case.
-    let least = &stated::limits()[2];
-    lines.put_case(&CRATE, &least.card, 99_999_999_999, 99_999_999_999, least.answer, &least.output);
-    let case = format!("{} {} 100 {WORDS}", digits(&CRATE), digits(&least.card));
-    lines.put(&format!("{case} = anything"), &format!("0 {} {}", least.output.len(), digits(&least.output)));
+    let least = of_stated(None, stated::limits().swap_remove(2));
+    lines.put_case(&Vector { out: 99_999_999_999, words: 99_999_999_999, ..least.clone() });
+    let least = Vector { out: 100, ..least };
+    lines.put(&format!("{} = anything", least.question()), &least.answer());
     for line in NO_CASES {
         lines.put(line, NO_CASE);
     }
@@ -163,6 +237,7 @@ fn batch(vectors: &str, lists: &str, folder: &str) -> Result<(), String> {
     lines.put(&"0".repeat(600_001), NO_CASE);
     lines.put(&format!("- {} 0 {WORDS}", "0".repeat(262_143 - 9)), "2 0");
     put_lists(&mut lines, lists)?;
+    put_straight(&mut lines, straight)?;
     lines.write(folder)
 }
 
@@ -205,7 +280,7 @@ fn main() -> ExitCode {
     let words: Vec<String> = env::args().skip(1).collect();
     let words: Vec<&str> = words.iter().map(String::as_str).collect();
     let done = match words[..] {
-        ["batch", vectors, lists, folder] => batch(vectors, lists, folder),
+        ["batch", vectors, lists, straight, folder] => batch(vectors, lists, straight, folder),
         ["apply", folder] => apply(folder),
         _ => Err(USAGE.to_string()),
     };

@@ -1,7 +1,7 @@
-//! How many bytes of stack the console's call takes: the stack is painted, the call made, and the paint looked at.
+//! How many bytes of stack the console's calls take: the stack is painted, the call made, and the paint looked at.
 use std::hint::black_box;
 use std::thread;
-use yardstick::{cards, classes, console};
+use yardstick::{cards, classes, console, Operation};
 
 /// How much is painted, and the paint.
 const PAINTED: usize = 256 << 10;
@@ -21,7 +21,7 @@ fn deep(times: usize) -> Vec<u8> {
 
 /// The bytes below this frame that a call changed. Nothing is borrowed there: the area is free stack.
 #[inline(never)]
-fn used(card: &[u8], out: &mut [u8]) -> usize {
+fn used(operation: Operation, card: &[u8], out: &mut [u8]) -> usize {
     let here = 0u8;
     let top = (&here as *const u8 as usize) - 4096;
     let area = top - PAINTED;
@@ -30,7 +30,7 @@ fn used(card: &[u8], out: &mut [u8]) -> usize {
             std::ptr::write_volatile((area + i) as *mut u8, PAINT);
         }
     }
-    let answer = console::shorten(black_box(card), &[2, 0, 0, 0, 0x11, 0], out);
+    let answer = console::shorten(operation, black_box(card), &[2, 0, 0, 0, 0x11, 0], out);
     black_box(answer).expect("a card that is accepted");
     let kept = (0..PAINTED)
         .take_while(|i| unsafe { std::ptr::read_volatile((area + i) as *const u8) } == PAINT)
@@ -47,11 +47,14 @@ fn main() {
         ("512 pairs", classes::pairs(512)),
     ];
     for (what, card) in cards {
-        let run = move || {
-            let mut out = vec![0; 1 << 20];
-            used(&card, &mut out)
-        };
-        let bytes = thread::Builder::new().stack_size(2 << 20).spawn(run).unwrap().join().unwrap();
-        println!("{what}: {bytes} bytes of stack");
+        let [old, straight] = Operation::BOTH.map(|operation| {
+            let card = card.clone();
+            let run = move || {
+                let mut out = vec![0; 1 << 20];
+                used(operation, &card, &mut out)
+            };
+            thread::Builder::new().stack_size(2 << 20).spawn(run).unwrap().join().unwrap()
+        });
+        println!("{what}: {old} bytes of stack, {straight} in straight shortening");
     }
 }

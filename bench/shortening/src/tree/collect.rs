@@ -11,12 +11,15 @@ pub struct Mapping<'a> {
     pub pairs: Vec<(Text<'a>, Rc<Path<'a>>)>,
 }
 
-/// The base of each name that is shortened.
-pub struct Replacement<'a>(HashMap<Text<'a>, Rc<Path<'a>>>);
+/// The base of each name that is shortened, and by which operation.
+pub struct Replacement<'a> {
+    chosen: HashMap<Text<'a>, Rc<Path<'a>>>,
+    pub operation: Operation,
+}
 
 impl<'a> Replacement<'a> {
     pub fn has(&self, name: Text<'a>, base: &Path<'a>) -> bool {
-        self.0.get(&name).is_some_and(|chosen| **chosen == *base)
+        self.chosen.get(&name).is_some_and(|chosen| **chosen == *base)
     }
 }
 
@@ -47,9 +50,9 @@ impl<'a> Mapping<'a> {
         bases.get(&self.prefix).or_else(|| bases.iter().find(|base| is_runtime(base)))
     }
 
-    pub fn replacement(&self) -> Replacement<'a> {
+    pub fn replacement(&self, operation: Operation) -> Replacement<'a> {
         let chosen = |&name| Some((name, self.chosen(name)?.clone()));
-        Replacement(self.keys.iter().filter_map(chosen).collect())
+        Replacement { chosen: self.keys.iter().filter_map(chosen).collect(), operation }
     }
 
     /// Names and bases of the uses, in order.

@@ -29,7 +29,7 @@ mod read;
 mod replace;
 mod write;
 
-use crate::{Answer, Listed, Mark, Refusal, MOST_CARD, MOST_PAIRS, MOST_ROOT, WORDS};
+use crate::{Answer, Listed, Mark, Operation, Refusal, MOST_CARD, MOST_PAIRS, MOST_ROOT, WORDS};
 use std::rc::Rc;
 
 pub use collect::{is_runtime, Mapping};
@@ -286,25 +286,30 @@ impl<'a> Module<'a> {
     }
 
     /// As the text's apply does, under the outermost module's prefix.
-    fn apply(&mut self, root: Rc<Path<'a>>) -> Result<(), Refusal> {
+    fn apply(&mut self, operation: Operation, root: Rc<Path<'a>>) -> Result<(), Refusal> {
         let prefix = select(&root, self.name());
-        self.apply_prefix(&prefix)
+        self.apply_prefix(operation, &prefix)
     }
 
-    fn apply_prefix(&mut self, prefix: &Rc<Path<'a>>) -> Result<(), Refusal> {
+    fn apply_prefix(&mut self, operation: Operation, prefix: &Rc<Path<'a>>) -> Result<(), Refusal> {
         let Module::Mod(module) = self else { return Ok(()) };
         let mapping = Mapping::of(module, prefix);
         if mapping.pairs.len() > MOST_PAIRS {
             return Err((8, module.place as u32));
         }
-        let replacement = mapping.replacement();
+        let replacement = mapping.replacement(operation);
         let uses = mapping.uses();
         for declaration in &mut module.body {
             match declaration {
-                // The prefix gets the name twice.
+                // ReplaceModDecl adds the name to the prefix, and PathSimplifier adds it again.
                 Declaration::Module(nested) => {
                     let name = nested.name();
-                    nested.apply_prefix(&select(&select(prefix, name), name))?;
+                    let once = select(prefix, name);
+                    let prefix = match operation {
+                        Operation::Upstream => select(&once, name),
+                        Operation::Straight => once,
+                    };
+                    nested.apply_prefix(operation, &prefix)?;
                 }
                 other => replacement.declaration(other),
             }
@@ -354,15 +359,20 @@ pub fn outermost<'a>(card: &'a [u8], root: &'a [u8], words: usize) -> Result<Map
 }
 
 /// The card's module with its names shortened, or the first of refusals 1 to 8.
-fn shortened<'a>(card: &'a [u8], root: &'a [u8], words: usize) -> Result<Module<'a>, Refusal> {
+fn shortened<'a>(
+    operation: Operation,
+    card: &'a [u8],
+    root: &'a [u8],
+    words: usize,
+) -> Result<Module<'a>, Refusal> {
     let (mut module, root) = read(card, root, words)?;
-    module.apply(root)?;
+    module.apply(operation, root)?;
     Ok(module)
 }
 
 /// The output's length, the output being at the front of `out`; or a refusal's number and place.
-pub fn shorten(card: &[u8], root: &[u8], out: &mut [u8], words: usize) -> Answer {
-    let module = shortened(card, root, words)?;
+pub fn shorten(operation: Operation, card: &[u8], root: &[u8], out: &mut [u8], words: usize) -> Answer {
+    let module = shortened(operation, card, root, words)?;
     let output = bytes(&module);
     let front = out.get_mut(..output.len()).ok_or((9, 0))?;
     front.copy_from_slice(&output);
@@ -370,8 +380,15 @@ pub fn shorten(card: &[u8], root: &[u8], out: &mut [u8], words: usize) -> Answer
 }
 
 /// The same with a list: the number of its entries too, each two words, at the front of `list`.
-pub fn shorten_places(card: &[u8], root: &[u8], out: &mut [u8], words: usize, list: &mut [u32]) -> Listed {
-    let module = shortened(card, root, words)?;
+pub fn shorten_places(
+    operation: Operation,
+    card: &[u8],
+    root: &[u8],
+    out: &mut [u8],
+    words: usize,
+    list: &mut [u32],
+) -> Listed {
+    let module = shortened(operation, card, root, words)?;
     let mut places = Places::new();
     let output = written(&module, Some(&mut places));
     let front = out.get_mut(..output.len()).ok_or((9, 0))?;

@@ -209,10 +209,14 @@ impl<'a> Replacement<'a> {
         expr.replace(0, &|expr| self.expr_single(expr), &|tpe, _| self.type_single(tpe, 1));
     }
 
-    /// Replace is handed ReplaceType and ReplaceExpr, which walk again: a path type is wrapped once more
-    /// for each type and expression around it, but in the type parameters.
+    /// Upstream's Replace is handed ReplaceType and ReplaceExpr, which walk again: a path type is wrapped once
+    /// more for each type and expression around it, but in the type parameters.
     fn function(&self, function: &mut Function<'a>) {
-        let counted = |tpe: &mut Type<'a>, around| self.type_single(tpe, around + 1);
+        let times = |around| match self.operation {
+            Operation::Upstream => around + 1,
+            Operation::Straight => 1,
+        };
+        let counted = |tpe: &mut Type<'a>, around| self.type_single(tpe, times(around));
         self.params(&mut function.params);
         function.formals.iter_mut().for_each(|formal| formal.tpe.replace(0, &counted));
         function.result.iter_mut().for_each(|tpe| tpe.replace(0, &counted));
@@ -256,7 +260,8 @@ fn counted_as_spelled() {
         let [Ok((Module::Mod(mut counted), root)), Ok((Module::Mod(mut spelled), _))] = twice else {
             continue;
         };
-        let replacement = Mapping::of(&counted, &select(&root, counted.name)).replacement();
+        let mapping = Mapping::of(&counted, &select(&root, counted.name));
+        let replacement = mapping.replacement(Operation::Upstream);
         for (counted, spelled) in functions(&mut counted).into_iter().zip(functions(&mut spelled)) {
             let before = bytes(&*counted);
             replacement.function(counted);

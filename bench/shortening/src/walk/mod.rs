@@ -6,7 +6,7 @@ mod names;
 mod write;
 
 use crate::rows::{Place, Shape, What, DECLARATIONS, KEPT, MODULE, PATH, ROWS, TEXT};
-use crate::{Answer, Listed, Refusal, MOST_CARD, MOST_PAIRS, MOST_ROOT, WORDS};
+use crate::{Answer, Listed, Operation, Refusal, MOST_CARD, MOST_PAIRS, MOST_ROOT, WORDS};
 use names::{Names, NONE};
 
 /// Something that may change.
@@ -28,6 +28,7 @@ enum Sort {
 }
 
 struct Walk<'a> {
+    operation: Operation,
     bytes: &'a [u8],
     names: Names<'a>,
     points: Vec<Point>,
@@ -160,7 +161,7 @@ impl<'a> Walk<'a> {
             }
             What::Fields => {}
             What::Unseen => around.collects = false,
-            What::Counted => around.grows = 1,
+            What::Counted => around.grows = (self.operation == Operation::Upstream) as u8,
         }
         if kind == 0x2D || kind == 0x5C {
             let after = self.path(inside, stop, levels - 1)?;
@@ -211,7 +212,7 @@ impl<'a> Walk<'a> {
             self.names.add(parent, name, None);
         }
         if kind == 0x60 {
-            self.module = self.names.enter(parent, name, at);
+            self.module = self.names.enter(self.operation, parent, name, at);
             self.points.push(Point { at: inside as u32, module: self.module, sort: Sort::Body });
             inside = self.field(&DECLARATIONS, inside, stop, levels, OUTSIDE)?;
             self.module = parent;
@@ -285,26 +286,46 @@ impl<'a> Walk<'a> {
 }
 
 /// The output's length, the output being at the front of `out`; or a refusal's number and place.
-pub fn shorten(card: &[u8], root: &[u8], out: &mut [u8], words: usize) -> Answer {
-    let (length, _) = run(card, root, out, words, None)?;
+pub fn shorten(operation: Operation, card: &[u8], root: &[u8], out: &mut [u8], words: usize) -> Answer {
+    let (length, _) = run(operation, card, root, out, words, None)?;
     Ok(length)
 }
 
 /// The same with a list: the number of its entries too, each two words, at the front of `list`.
-pub fn shorten_places(card: &[u8], root: &[u8], out: &mut [u8], words: usize, list: &mut [u32]) -> Listed {
-    run(card, root, out, words, Some(list))
+pub fn shorten_places(
+    operation: Operation,
+    card: &[u8],
+    root: &[u8],
+    out: &mut [u8],
+    words: usize,
+    list: &mut [u32],
+) -> Listed {
+    run(operation, card, root, out, words, Some(list))
 }
 
 #[inline(always)]
-fn run(card: &[u8], root: &[u8], out: &mut [u8], words: usize, list: Option<&mut [u32]>) -> Listed {
+fn run(
+    operation: Operation,
+    card: &[u8],
+    root: &[u8],
+    out: &mut [u8],
+    words: usize,
+    list: Option<&mut [u32]>,
+) -> Listed {
     if words < WORDS {
         return Err((1, 0));
     }
     if card.len() > MOST_CARD {
         return Err((2, 0));
     }
-    let mut walk =
-        Walk { bytes: root, names: Names::new(root), points: Vec::new(), module: NONE, refusal: (0, 0) };
+    let mut walk = Walk {
+        operation,
+        bytes: root,
+        names: Names::new(root),
+        points: Vec::new(),
+        module: NONE,
+        refusal: (0, 0),
+    };
     if root.len() > MOST_ROOT || walk.path(0, root.len(), 8) != Some(root.len()) {
         return Err((3, 0));
     }

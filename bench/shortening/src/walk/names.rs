@@ -1,5 +1,5 @@
 //! The names of all modules of a card, with their bases.
-use crate::MOST_PAIRS;
+use crate::{Operation, MOST_PAIRS};
 use std::collections::hash_map::{Entry, HashMap};
 use std::hash::{BuildHasherDefault, Hasher};
 use std::iter;
@@ -56,12 +56,15 @@ impl<'a> Names<'a> {
         Names { paths: root.to_vec(), ..Names::default() }
     }
 
-    /// Starts a module: its number. A nested one's prefix gets the name twice.
-    pub fn enter(&mut self, parent: u32, name: &[u8], place: usize) -> u32 {
+    /// Starts a module: its number. Upstream a nested one's prefix gets the name twice.
+    pub fn enter(&mut self, operation: Operation, parent: u32, name: &[u8], place: usize) -> u32 {
         let prefix = match self.modules.get(parent as usize) {
             Some(parent) => {
                 let once = self.select(parent.prefix.clone(), name);
-                self.select(once, name)
+                match operation {
+                    Operation::Upstream => self.select(once, name),
+                    Operation::Straight => once,
+                }
             }
             // The root stands first, before any prefix.
             None => self.select(0..self.paths.len(), name),

@@ -1,6 +1,6 @@
 -- `comparing::hash` meets its contract, operation by operation. Assumes nothing.
 use mathlib.Core.Path.{refl}
-use Rattle.comparing.proofs.Operations.{upstream-hash}
+use Rattle.comparing.proofs.Operations.{hash-is}
 use borrow.Author.Needs.{needs}
 use Rattle.comparing.proofs.hash.Statement.{statement}
 use Rattle.comparing.proofs.hash.Tie as tie
@@ -18,7 +18,7 @@ returns : tie.Need-returns
 returns c =
     let args = c .before .before .args in
     let hash-bytes = c .hash-bytes in
-    upstream-hash (args .op) _ _ _ (hash-bytes .ensures .0) refl
+    hash-is (args .op) _ _ _ (hash-bytes .ensures .0) refl
 
 pub hash-spec : {M : Type 1} → statement M
 hash-spec = tie.close (tie.spec hash-bytes-requires mul-result returns)

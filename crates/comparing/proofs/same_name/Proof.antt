@@ -3,7 +3,7 @@ use mathlib.Core.Path.{_≡_}
 use mathlib.Core.Bool.{Bool}
 use borrow.Author.Needs.{needs}
 use Rattle.wire.specs.Numbers.{Bytes, sameBytes}
-use Rattle.comparing.proofs.Operations.{upstream-name}
+use Rattle.comparing.proofs.Operations.{name-bytes}
 use Rattle.comparing.proofs.same_name.Statement.{statement}
 use Rattle.comparing.proofs.same_name.Tie as tie
 use Rattle.comparing.proofs.same_name.Reads as reads
@@ -17,7 +17,7 @@ returns : tie.Need-returns
 returns c =
     let args = c .before .before .before .args in
     let same = c .same in
-    upstream-name (args .op) _ _ _ (same .ensures)
+    name-bytes (args .op) _ _ _ (same .ensures)
 
 pub same-name-spec : {M : Type 1} → statement M
 same-name-spec = tie.close (tie.spec same-requires returns)

@@ -1,6 +1,6 @@
 -- `comparing::same_path` meets its contract, operation by operation. Assumes nothing.
 use borrow.Author.Needs.{needs}
-use Rattle.comparing.proofs.Operations.{upstream-path}
+use Rattle.comparing.proofs.Operations.{path-bytes}
 use Rattle.comparing.proofs.same_path.Statement.{statement}
 use Rattle.comparing.proofs.same_path.Tie as tie
 use Rattle.comparing.proofs.same_path.Reads as reads
@@ -14,7 +14,7 @@ returns : tie.Need-returns
 returns c =
     let args = c .before .before .before .args in
     let same = c .same in
-    upstream-path (args .op) _ _ _ (same .ensures)
+    path-bytes (args .op) _ _ _ (same .ensures)
 
 pub same-path-spec : {M : Type 1} → statement M
 same-path-spec = tie.close (tie.spec same-requires returns)

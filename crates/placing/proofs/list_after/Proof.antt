@@ -48,12 +48,4 @@ returns-3 c =
 pub list-after-spec : {M : Type 1} → statement M
 list-after-spec =
     tie.close
-    (tie.spec
-    enum-known-w
-    enum-known-w-2
-    returns
-    slice-aggregate-list-places
-    list-places-requires
-    returns-2
-    same-length
-    returns-3)
+    (tie.spec enum-known-w enum-known-w-2 returns slice-aggregate-list-places list-places-requires returns-2 same-length returns-3)

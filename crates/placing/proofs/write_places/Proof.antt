@@ -5,6 +5,9 @@ use borrow.Author.Needs.{needs}
 use Rattle.placing.proofs.write_places.Statement.{statement}
 use Rattle.placing.proofs.write_places.Tie as tie
 
+plain-requires : tie.Need-plain-requires
+plain-requires c κs = search needs
+
 write-requires : tie.Need-write-requires
 write-requires c κs = search needs
 
@@ -24,10 +27,12 @@ returns : tie.Need-returns
 returns c =
     let list-after = c .before .before .list-after in
     let write = c .before .before .before .before .before .before .before .before .before .write in
-    let if1 = c .before .before .before .before .before .before .before .before .before .before .before .before .if1 in
+    let if1 = c .before .before .before .before .before .before .before .before .before .before .before .before .before .if1 in
     let args = c .before .before .before .before .before .before .before .before .before .before .before .before .before .before .before .before
-    .before .before .args in
-    first-gives (args .card .now) (args .root .now) (args .out .now) (args .work .now) (args .list .now) (if1 .taken) (write .ensures) (list-after .ensures)
+    .before .before .before .args in
+    let plain = c .before .before .before .before .before .before .before .before .before .before .before .before .plain in
+    first-gives (args .pass) (args .card .now) (args .root .now) (args .out .now) (args .work .now) (args .list .now) _ (plain .ensures) (if1 .taken)
+    (write .ensures) (list-after .ensures)
 
 count-first-requires : tie.Need-count-first-requires
 count-first-requires c κs = search needs
@@ -46,12 +51,14 @@ returns-2 c =
     let count-first = c .before .before .before .before .before .before .count-first in
     let if1 = c .before .before .before .before .before .before .before .before .before .before .if1 in
     let args = c .before .before .before .before .before .before .before .before .before .before .before .before .before .before .before .before .args in
-    counted-gives (args .card .now) (args .root .now) (args .out .now) (args .work .now) (args .list .now) (omega (arith, if1 .left)) (count-first .ensures)
+    counted-gives (args .pass) (args .card .now) (args .root .now) (args .out .now) (args .work .now) (args .list .now) (omega (arith, if1 .left))
+    (count-first .ensures)
 
 pub write-places-spec : {M : Type 1} → statement M
 write-places-spec =
     tie.close
     (tie.spec
+    plain-requires
     write-requires
     list-after-requires
     same-length

@@ -26,27 +26,30 @@ returns c =
     let shared-slice-known2 = c .before .before .before .before .before .before .shared-slice-known2 in
     let admit = c .before .before .before .admit in
     let v = c .before .v in
-    refused (args .card .now) (args .root .now) (args .out .now) (args .work .now) (λ i. shared-slice-known .given i .fits)
+    refused (args .pass) (args .card .now) (args .root .now) (args .out .now) (args .work .now) (λ i. shared-slice-known .given i .fits)
     (λ i. shared-slice-known2 .given i .fits) _ (admit .ensures) _ (v .given .1)
+
+plain-requires : tie.Need-plain-requires
+plain-requires c κs = search needs
 
 slice-relend-prefix-write : tie.Need-slice-relend-prefix-write
 slice-relend-prefix-write c =
-    let args = c .before .before .before .before .before .before .before .before .args in
-    let shared-slice-known = c .before .before .before .before .before .before .before .shared-slice-known in
-    let shared-slice-known2 = c .before .before .before .before .before .before .shared-slice-known2 in
-    let admit = c .before .before .before .admit in
-    let enum-told = c .before .enum-told in
-    enough (args .card .now) (args .root .now) (args .out .now) (args .work .now) (λ i. shared-slice-known .given i .fits)
-    (λ i. shared-slice-known2 .given i .fits) _ (admit .ensures) (enum-told .given .1)
-
-slice-aggregate-write : tie.Need-slice-aggregate-write
-slice-aggregate-write c =
     let args = c .before .before .before .before .before .before .before .before .before .args in
     let shared-slice-known = c .before .before .before .before .before .before .before .before .shared-slice-known in
     let shared-slice-known2 = c .before .before .before .before .before .before .before .shared-slice-known2 in
     let admit = c .before .before .before .before .admit in
     let enum-told = c .before .before .enum-told in
-    lent (args .card .now) (args .root .now) (args .out .now) (args .work .now) (λ i. shared-slice-known .given i .fits)
+    enough (args .pass) (args .card .now) (args .root .now) (args .out .now) (args .work .now) (λ i. shared-slice-known .given i .fits)
+    (λ i. shared-slice-known2 .given i .fits) _ (admit .ensures) (enum-told .given .1)
+
+slice-aggregate-write : tie.Need-slice-aggregate-write
+slice-aggregate-write c =
+    let args = c .before .before .before .before .before .before .before .before .before .before .args in
+    let shared-slice-known = c .before .before .before .before .before .before .before .before .before .shared-slice-known in
+    let shared-slice-known2 = c .before .before .before .before .before .before .before .before .shared-slice-known2 in
+    let admit = c .before .before .before .before .before .admit in
+    let enum-told = c .before .before .before .enum-told in
+    lent (args .pass) (args .card .now) (args .root .now) (args .out .now) (args .work .now) (λ i. shared-slice-known .given i .fits)
     (λ i. shared-slice-known2 .given i .fits) _ (admit .ensures) (enum-told .given .1)
 
 write-requires : tie.Need-write-requires
@@ -66,19 +69,21 @@ same-length-2 c = search needs
 
 returns-2 : tie.Need-returns-2
 returns-2 c =
-    let args = c .before .before .before .before .before .before .before .before .before .before .before .before .before .before .before .before .before
-    .before .before .args in
-    let shared-slice-known = c .before .before .before .before .before .before .before .before .before .before .before .before .before .before .before .before
-    .before .before .shared-slice-known in
-    let shared-slice-known2 = c .before .before .before .before .before .before .before .before .before .before .before .before .before .before .before .before
-    .before .shared-slice-known2 in
-    let admit = c .before .before .before .before .before .before .before .before .before .before .before .before .before .before .admit in
-    let enum-told = c .before .before .before .before .before .before .before .before .before .before .before .before .enum-told in
+    let args = c .before .before .before .before .before .before .before .before .before .before .before .before .before .before .before .before
+    .before .before .before .before .args in
+    let shared-slice-known = c .before .before .before .before .before .before .before .before .before .before .before .before .before .before .before
+    .before .before .before .before .shared-slice-known in
+    let shared-slice-known2 = c .before .before .before .before .before .before .before .before .before .before .before .before .before .before
+    .before .before .before .before .shared-slice-known2 in
+    let admit = c .before .before .before .before .before .before .before .before .before .before .before .before .before .before .before .admit in
+    let enum-told = c .before .before .before .before .before .before .before .before .before .before .before .before .before .enum-told in
     let write = c .before .before .before .before .before .before .before .before .before .write in
     let clear = c .before .before .before .clear in
     let answer-of = c .answer-of in
-    kept (args .card .now) (args .root .now) (args .out .now) (args .work .now) (λ i. shared-slice-known .given i .fits)
-    (λ i. shared-slice-known2 .given i .fits) _ (admit .ensures) (enum-told .given .1) _ _ _ (write .ensures) _ (clear .ensures) _ (answer-of .ensures)
+    let plain = c .before .before .before .before .before .before .before .before .before .before .before .before .plain in
+    kept (args .pass) (args .card .now) (args .root .now) (args .out .now) (args .work .now) (λ i. shared-slice-known .given i .fits)
+    (λ i. shared-slice-known2 .given i .fits) _ (admit .ensures) (enum-told .given .1) _ (plain .ensures) _ _ _ (write .ensures) _ (clear .ensures) _
+    (answer-of .ensures)
 
 pub shorten-spec : {M : Type 1} → statement M
 shorten-spec =
@@ -88,6 +93,7 @@ shorten-spec =
     enum-told
     enum-known-v
     returns
+    plain-requires
     slice-relend-prefix-write
     slice-aggregate-write
     write-requires

@@ -22,7 +22,8 @@ returns c =
     let shared-slice-known2 = c .before .before .before .before .before .shared-slice-known2 in
     let admit = c .before .before .before .admit in
     let v = c .before .v in
-    alone-refused (args .card .now) (args .root .now) (args .out .now) (λ i. shared-slice-known .given i .fits) (λ i. shared-slice-known2 .given i .fits) _
+    alone-refused (args .pass) (args .card .now) (args .root .now) (args .out .now) (λ i. shared-slice-known .given i .fits)
+    (λ i. shared-slice-known2 .given i .fits) _
     (admit .ensures) _ (v .given .1)
 
 shorten-small-requires : tie.Need-shorten-small-requires

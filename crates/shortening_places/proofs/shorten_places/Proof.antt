@@ -20,7 +20,7 @@ returns c =
     let shared-slice-known2 = c .before .before .before .before .before .before .before .shared-slice-known2 in
     let shared-slice-known = c .before .before .before .before .before .before .before .before .shared-slice-known in
     let args = c .before .before .before .before .before .before .before .before .before .args in
-    refused (args .card .now) (args .root .now) (args .out .now) (args .work .now) (args .list .now) (λ i. shared-slice-known .given i .fits)
+    refused (args .pass) (args .card .now) (args .root .now) (args .out .now) (args .work .now) (args .list .now) (λ i. shared-slice-known .given i .fits)
     (λ i. shared-slice-known2 .given i .fits) _ (admit .ensures) _ (v .given .1)
 
 slice-relend-prefix-write-places : tie.Need-slice-relend-prefix-write-places
@@ -30,7 +30,7 @@ slice-relend-prefix-write-places c =
     let shared-slice-known2 = c .before .before .before .before .before .before .before .shared-slice-known2 in
     let shared-slice-known = c .before .before .before .before .before .before .before .before .shared-slice-known in
     let args = c .before .before .before .before .before .before .before .before .before .args in
-    enough (args .card .now) (args .root .now) (args .out .now) (args .work .now) (args .list .now) (λ i. shared-slice-known .given i .fits)
+    enough (args .pass) (args .card .now) (args .root .now) (args .out .now) (args .work .now) (args .list .now) (λ i. shared-slice-known .given i .fits)
     (λ i. shared-slice-known2 .given i .fits) _ (admit .ensures) (enum-told .given .1)
 
 slice-aggregate-write-places : tie.Need-slice-aggregate-write-places
@@ -40,7 +40,7 @@ slice-aggregate-write-places c =
     let shared-slice-known2 = c .before .before .before .before .before .before .before .before .shared-slice-known2 in
     let shared-slice-known = c .before .before .before .before .before .before .before .before .before .shared-slice-known in
     let args = c .before .before .before .before .before .before .before .before .before .before .args in
-    lent (args .card .now) (args .root .now) (args .out .now) (args .work .now) (args .list .now) (λ i. shared-slice-known .given i .fits)
+    lent (args .pass) (args .card .now) (args .root .now) (args .out .now) (args .work .now) (args .list .now) (λ i. shared-slice-known .given i .fits)
     (λ i. shared-slice-known2 .given i .fits) _ (admit .ensures) (enum-told .given .1)
 
 write-places-requires : tie.Need-write-places-requires
@@ -75,7 +75,7 @@ returns-2 c =
     .before .before .before .before .before .before .before .shared-slice-known in
     let args = c .before .before .before .before .before .before .before .before .before .before .before .before .before .before .before .before
     .before .before .before .before .before .before .before .args in
-    kept (args .card .now) (args .root .now) (args .out .now) (args .work .now) (args .list .now) (λ i. shared-slice-known .given i .fits)
+    kept (args .pass) (args .card .now) (args .root .now) (args .out .now) (args .work .now) (args .list .now) (λ i. shared-slice-known .given i .fits)
     (λ i. shared-slice-known2 .given i .fits) _ (admit .ensures) (enum-told .given .1) _ _ _ _ (write-places .ensures) _ (clear .ensures) _ (listed-of .ensures)
 
 pub shorten-places-spec : {M : Type 1} → statement M

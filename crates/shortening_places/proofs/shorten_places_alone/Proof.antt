@@ -20,7 +20,7 @@ returns c =
     let shared-slice-known2 = c .before .before .before .before .before .before .shared-slice-known2 in
     let shared-slice-known = c .before .before .before .before .before .before .before .shared-slice-known in
     let args = c .before .before .before .before .before .before .before .before .args in
-    alone-refused (args .card .now) (args .root .now) (args .out .now) (args .list .now) (λ i. shared-slice-known .given i .fits)
+    alone-refused (args .pass) (args .card .now) (args .root .now) (args .out .now) (args .list .now) (λ i. shared-slice-known .given i .fits)
     (λ i. shared-slice-known2 .given i .fits) _ (admit .ensures) _ (v .given .1)
 
 slice-aggregate-write-places : tie.Need-slice-aggregate-write-places
@@ -50,7 +50,7 @@ returns-2 c =
     .before .shared-slice-known in
     let args = c .before .before .before .before .before .before .before .before .before .before .before .before .before .before .before .before
     .before .args in
-    alone-kept (args .card .now) (args .root .now) (args .out .now) (args .list .now) (λ i. shared-slice-known .given i .fits)
+    alone-kept (args .pass) (args .card .now) (args .root .now) (args .out .now) (args .list .now) (λ i. shared-slice-known .given i .fits)
     (λ i. shared-slice-known2 .given i .fits) _ (admit .ensures) (enum-told .given .1) _ _ _ _ (write-places .ensures) _ (listed-of .ensures)
 
 pub shorten-places-alone-spec : {M : Type 1} → statement M

@@ -1,9 +1,9 @@
--- `console::vegashol_shorten_places` meets its contract. Assumes nothing.
+-- `console::shorten_places` meets its contract. Assumes nothing.
 use native.Mathlib.Omega.{arith}
 use Rattle.console.proofs.PacksPlaces.{entries-fit, packs-refusal, packs-entries}
 use borrow.Author.Needs.{needs}
-use Rattle.console.proofs.vegashol_shorten_places.Statement.{statement}
-use Rattle.console.proofs.vegashol_shorten_places.Tie as tie
+use Rattle.console.proofs.shorten_places.Statement.{statement}
+use Rattle.console.proofs.shorten_places.Tie as tie
 
 shorten-places-alone-requires : tie.Need-shorten-places-alone-requires
 shorten-places-alone-requires c κs = search needs
@@ -28,7 +28,8 @@ returns c =
     let shorten-places-alone = c .before .before .before .before .before .before .before .shorten-places-alone in
     let shared-slice-known = c .before .before .before .before .before .before .before .before .before .before .before .before .before .shared-slice-known in
     let args = c .before .before .before .before .before .before .before .before .before .before .before .before .before .before .args in
-    packs-refusal (args .card .now) (args .root .now) (args .out .now) (args .list .now) (args .entries .now) (λ i. shared-slice-known .given i .fits)
+    packs-refusal (args .pass) (args .card .now) (args .root .now) (args .out .now) (args .list .now) (args .entries .now)
+    (λ i. shared-slice-known .given i .fits)
     (shorten-places-alone .ensures) _ _ (number .ensures) (if1 .taken) (packed .ensures)
 
 cast-entries : tie.Need-cast-entries
@@ -36,7 +37,7 @@ cast-entries c =
     let shorten-places-alone = c .before .before .before .before .before .before .before .shorten-places-alone in
     let shared-slice-known = c .before .before .before .before .before .before .before .before .before .before .before .before .before .shared-slice-known in
     let args = c .before .before .before .before .before .before .before .before .before .before .before .before .before .before .args in
-    let l = entries-fit (args .card .now) (args .root .now) (args .out .now) (args .list .now) 0 (λ i. shared-slice-known .given i .fits)
+    let l = entries-fit (args .pass) (args .card .now) (args .root .now) (args .out .now) (args .list .now) 0 (λ i. shared-slice-known .given i .fits)
     (shorten-places-alone .ensures) in
     omega (arith, l)
 
@@ -58,11 +59,12 @@ returns-2 c =
     let shared-slice-known = c .before .before .before .before .before .before .before .before .before .before .before .before .before
     .before .shared-slice-known in
     let args = c .before .before .before .before .before .before .before .before .before .before .before .before .before .before .before .args in
-    packs-entries (args .card .now) (args .root .now) (args .out .now) (args .list .now) (args .entries .now) (λ i. shared-slice-known .given i .fits)
+    packs-entries (args .pass) (args .card .now) (args .root .now) (args .out .now) (args .list .now) (args .entries .now)
+    (λ i. shared-slice-known .given i .fits)
     (shorten-places-alone .ensures) _ _ (number .ensures) (omega (arith, if1 .left)) (packed2 .ensures)
 
-pub vegashol-shorten-places-spec : {M : Type 1} → statement M
-vegashol-shorten-places-spec =
+pub shorten-places-spec : {M : Type 1} → statement M
+shorten-places-spec =
     tie.close
     (tie.spec
     shorten-places-alone-requires

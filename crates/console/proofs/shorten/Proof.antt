@@ -1,8 +1,8 @@
--- `console::vegashol_shorten` meets its contract. Assumes nothing.
+-- `console::shorten` meets its contract. Assumes nothing.
 use Rattle.console.proofs.Packs.{packs}
 use borrow.Author.Needs.{needs}
-use Rattle.console.proofs.vegashol_shorten.Statement.{statement}
-use Rattle.console.proofs.vegashol_shorten.Tie as tie
+use Rattle.console.proofs.shorten.Statement.{statement}
+use Rattle.console.proofs.shorten.Tie as tie
 
 shorten-alone-requires : tie.Need-shorten-alone-requires
 shorten-alone-requires c κs = search needs
@@ -19,8 +19,9 @@ returns c =
     let shared-slice-known = c .before .before .before .before .before .before .before .shared-slice-known in
     let shorten-alone = c .before .before .before .shorten-alone in
     let packed = c .packed in
-    packs (args .card .now) (args .root .now) (args .out .now) _ _ _ (λ i. shared-slice-known .given i .fits) (shorten-alone .ensures) (packed .ensures)
+    packs (args .pass) (args .card .now) (args .root .now) (args .out .now) _ _ _ (λ i. shared-slice-known .given i .fits) (shorten-alone .ensures)
+    (packed .ensures)
 
-pub vegashol-shorten-spec : {M : Type 1} → statement M
-vegashol-shorten-spec =
+pub shorten-spec : {M : Type 1} → statement M
+shorten-spec =
     tie.close (tie.spec shorten-alone-requires packed-requires same-length returns)

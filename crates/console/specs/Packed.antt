@@ -12,7 +12,7 @@ use Rattle.size.specs.Bound.{times}
 use Rattle.points.specs.Points.{NamesHold}
 
 pub record PackedPromise (pass : Pass) (card root out : Bytes) (answer : ℕ) (out′ : Bytes) : Type 0 where
-  -- demands 1 and 2; the number times 2 ^ 32, plus the length or place
+  -- demands 1 and 2, as the public call has them for its pass; the number times 2 ^ 32, plus the length or place
   pub answer-is : answer ≡ number (called pass card root out .answer) * 2 ^ 32 + value (called pass card root out .answer)
   -- so the lower 32 bits are the length or place, and the others the number
   pub whole : value (called pass card root out .answer) < 2 ^ 32

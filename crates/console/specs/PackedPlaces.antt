@@ -16,7 +16,7 @@ use Rattle.places.specs.Spots.{ListExact}
 use Rattle.shortening_places.specs.Placed.{called}
 
 pub record PackedPlaces (pass : Pass) (card root out : Bytes) (list : List ℕ) (entries answer : ℕ) (out′ : Bytes) (list′ : List ℕ) (entries′ : ℕ) : Type 0 where
-  -- demands 1 and 2; the number times 2 ^ 32, plus the length or place
+  -- demands 1 and 2, as the public call has them for its pass; the number times 2 ^ 32, plus the length or place
   pub answer-is : answer ≡ number (called pass card root out list .answer) * 2 ^ 32 + value (called pass card root out list .answer)
   -- so the lower 32 bits are the length or place, and the others the number
   pub whole : value (called pass card root out list .answer) < 2 ^ 32

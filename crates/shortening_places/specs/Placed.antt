@@ -1,4 +1,5 @@
--- What the public call with a lent list promises (02, request 1): demands 1 and 2 as one equation with `shortenListing`, demand 3, and that the list is exact.
+-- What the public call with a lent list promises (02, request 1), of either pass: demands 1 and 2 as one equation with `shortenListing` (where the pass is
+-- Straight, demand 2's tree is that of 02, request 2), demand 3, and that the list is exact.
 -- Assumes nothing: these are definitions.
 use mathlib.Core.Path.{_≡_}
 use mathlib.Core.List.{List}

@@ -5,7 +5,7 @@ use mathlib.Core.List.{List, _++_}
 use mathlib.Core.Option.{Option, none, some}
 use Prim.Native.Nat.{ℕ, _+_, _/_, _<_, _≤_, min}
 use native.Mathlib.Omega.{arith}
-use lib.ListN.{length, take, drop, getD, replicate, length-take, length-drop, length-append}
+use lib.ListN.{length, take, drop, getD, replicate, length-drop, length-append}
 use lib.Dec.{ltb}
 use borrow.Author.Tests.{ltb-false, lt-ltb, le-ltb}
 use Rattle.answers.specs.declared.Answer.{Answer}
@@ -18,7 +18,7 @@ use Rattle.rast.specs.Path.{whether}
 use Rattle.rast.specs.Operation.{upstream}
 use Rattle.rast.proofs.Tests.{by-test}
 use Rattle.outcome.specs.Outcome.{Outcome, admitted, shorten}
-use Rattle.outcome.proofs.Accepted.{admitted-alike, admitted-sound, accepted-times}
+use Rattle.outcome.proofs.Accepted.{admitted-alike, accepted-times}
 use Rattle.points.proofs.Demand.{demand-3}
 use Rattle.operation.specs.declared.Pass.{Pass}
 use Rattle.operation.specs.declared.Shortening.{Shortening}
@@ -27,6 +27,7 @@ use Rattle.operation.specs.Operations.{passOf, operationOf, plainOf, weightOf}
 use Rattle.operation.proofs.Lawful.{pass-plain}
 use Rattle.operation.proofs.Weights.{plain-weight}
 use Rattle.chains.specs.Chains.{room}
+use Rattle.admission.proofs.Lent.{lent, words-all}
 use Rattle.measuring.specs.declared.Written.{Written}
 use Rattle.measuring.specs.declared.Written.the-variants.{Full, Length}
 use Rattle.measuring.specs.Measured.{output, wholeOutput}
@@ -90,14 +91,8 @@ module _ (pass : Pass) (card root out : Bytes) (work : List ℕ) (bc : (i : ℕ)
   refused a h = promised pass card root out work a out work bc br (rw (admitted-alike (repeats pass) card root (length work), ← e, h))
 
   module _ (h : v ≡ Sound) where
-    pub enough : 2048 ≤ length work
-    enough = admitted-sound upstream card root (length work) (sym e ∙ h) .enough
-
-    pub lent : 2048 ≡ length (take 2048 work)
-    lent = let a = length-take 2048 work in let b = enough in omega arith
-
     most : room (take 2048 work) ≡ 512
-    most = ap (λ (n : ℕ). min (n / 4) 65535) (sym lent)
+    most = ap (λ (n : ℕ). min (n / 4) 65535) (sym (lent card root work v e h))
 
     module _ (op : Shortening) (p : op ≡ plainOf pass) (w : Written) (out′ : Bytes) (words : List ℕ)
         (o : output w out′ words ≡ wholeOutput op card root (take 2048 work) out) where
@@ -110,21 +105,14 @@ module _ (pass : Pass) (card root out : Bytes) (work : List ℕ) (bc : (i : ℕ)
       is-sound : admitted (operationOf op) card root (length work) ≡ Sound
       is-sound = admitted-alike (repeats (passOf op)) card root (length work) ∙ sym e ∙ h
 
-      words-all : length (words ++ drop 2048 work) ≡ length work
-      words-all =
-          let r = rw (← o) at (whole-sound op card root (length work) is-sound bc br weightless (take 2048 work) out) in
-          let a : length words ≡ length (take 2048 work) = r .words-long in
-          let b = length-append words (drop 2048 work) in
-          let c = length-drop 2048 work in
-          let d = enough in
-          let f = lent in
-          omega arith
+      words-long : length words ≡ length (take 2048 work)
+      words-long = rw (← o) at (whole-sound op card root (length work) is-sound bc br weightless (take 2048 work) out) .words-long
 
       pub kept : (work′ : List ℕ) → work′ ≡ replicate (length (words ++ drop 2048 work)) 0 → (a : Answer) → a ≡ answerOf w (length out′)
           → Promise pass card root out work a out′ work′
       kept work′ z a f =
           promised pass card root out work a out′ work′ bc br
-          (rw (f, z ∙ ap (λ (n : ℕ). replicate n 0) words-all)
+          (rw (f, z ∙ ap (λ (n : ℕ). replicate n 0) (words-all card root work v e h words words-long))
           (made op weightless card root out work bc br is-sound (take 2048 work) (ap (FullAt op card root (length work) is-sound bc br) most) w out′ words o
           ∙ ap (λ (q : Pass). shorten (asked q) card root out work) same-pass))
 

@@ -2,9 +2,8 @@
 use mathlib.Core.Path.{_≡_, refl, sym, ap, _∙_}
 use mathlib.Core.List.{List, _++_}
 use mathlib.Core.Option.{Option, none, some}
-use Prim.Native.Nat.{ℕ, _+_, _*_, _/_, _<_, _≤_, min}
-use native.Mathlib.Omega.{arith}
-use lib.ListN.{length, take, drop, getD, replicate, length-take, length-drop, length-append}
+use Prim.Native.Nat.{ℕ, _+_, _*_, _/_, _<_, min}
+use lib.ListN.{length, take, drop, getD, replicate}
 use lib.Dec.{ltb}
 use borrow.Author.Tests.{ne-eqb}
 use Rattle.answers.specs.declared.Answer.{Answer}
@@ -16,11 +15,12 @@ use Rattle.wire.proofs.Numbers.{are-bytes}
 use Rattle.rast.specs.Operation.{upstream}
 use Rattle.rast.proofs.Tests.{by-test}
 use Rattle.outcome.specs.Outcome.{admitted, shorten}
-use Rattle.outcome.proofs.Accepted.{refused-number, admitted-alike, admitted-sound}
+use Rattle.outcome.proofs.Accepted.{refused-number, admitted-alike}
 use Rattle.places.specs.Listing.{Listing, listing, shortenListing}
 use Rattle.places.proofs.Listings.{names-hold, length-most, list-exact}
 use Rattle.operation.specs.declared.Pass.{Pass}
 use Rattle.operation.specs.Passes.{repeats, asked}
+use Rattle.admission.proofs.Lent.{lent, words-all}
 use Rattle.chains.specs.Chains.{room}
 use Rattle.placing.specs.declared.Placed.{Placed}
 use Rattle.placing.specs.Placing.{placing, placed}
@@ -74,31 +74,18 @@ module _ (pass : Pass) (card root out : Bytes) (work list : List ℕ) (bc : (i :
     is-sound : admitted (asked pass) card root (length work) ≡ Sound
     is-sound = admitted-alike (repeats pass) card root (length work) ∙ sym e ∙ h
 
-    pub enough : 2048 ≤ length work
-    enough = admitted-sound (asked pass) card root (length work) is-sound .enough
-
-    pub lent : 2048 ≡ length (take 2048 work)
-    lent = let a = length-take 2048 work in let b = enough in omega arith
-
     most : room (take 2048 work) ≡ 512
-    most = ap (λ (n : ℕ). min (n / 4) 65535) (sym lent)
+    most = ap (λ (n : ℕ). min (n / 4) 65535) (sym (lent card root work v e h))
 
     module _ (p : Placed) (out′ : Bytes) (words list′ : List ℕ) (o : placing p out′ words list′ ≡ placed pass card root (take 2048 work) list out) where
-      words-all : length (words ++ drop 2048 work) ≡ length work
-      words-all =
-          let r = result pass card root out work list bc br is-sound (take 2048 work) most p out′ words list′ o in
-          let a : length words ≡ length (take 2048 work) = r .words-long in
-          let b = length-append words (drop 2048 work) in
-          let c = length-drop 2048 work in
-          let d = enough in
-          let f = lent in
-          omega arith
+      words-long : length words ≡ length (take 2048 work)
+      words-long = result pass card root out work list bc br is-sound (take 2048 work) most p out′ words list′ o .words-long
 
       pub kept : (work′ : List ℕ) → work′ ≡ replicate (length (words ++ drop 2048 work)) 0 → (r : Listed) → r ≡ listedOf p
           → Promise pass card root out work list r out′ work′ list′
       kept work′ z r f =
           promised pass card root out work list r out′ work′ list′ bc br
-          (rw (f, z ∙ ap (λ (n : ℕ). replicate n 0) words-all) (made pass card root out work list bc br is-sound (take 2048 work) most p out′ words list′ o))
+          (rw (f, z ∙ ap (λ (n : ℕ). replicate n 0) (words-all card root work v e h words words-long)) (made pass card root out work list bc br is-sound (take 2048 work) most p out′ words list′ o))
 
 -- by words of its own
 abbrev own-words : List ℕ

@@ -1,5 +1,6 @@
 -- `shortening::shorten` meets its contract, by the laws of Kept. Assumes nothing.
-use Rattle.shortening.proofs.Kept.{refused, enough, lent, kept}
+use Rattle.admission.proofs.Lent.{enough, lent}
+use Rattle.shortening.proofs.Kept.{refused, kept}
 use borrow.Author.Needs.{needs}
 use Rattle.shortening.proofs.shorten.Statement.{statement}
 use Rattle.shortening.proofs.shorten.Tie as tie
@@ -35,22 +36,16 @@ plain-requires c κs = search needs
 slice-relend-prefix-write : tie.Need-slice-relend-prefix-write
 slice-relend-prefix-write c =
     let args = c .before .before .before .before .before .before .before .before .before .args in
-    let shared-slice-known = c .before .before .before .before .before .before .before .before .shared-slice-known in
-    let shared-slice-known2 = c .before .before .before .before .before .before .before .shared-slice-known2 in
     let admit = c .before .before .before .before .admit in
     let enum-told = c .before .before .enum-told in
-    enough (args .pass) (args .card .now) (args .root .now) (args .out .now) (args .work .now) (λ i. shared-slice-known .given i .fits)
-    (λ i. shared-slice-known2 .given i .fits) _ (admit .ensures) (enum-told .given .1)
+    enough (args .card .now) (args .root .now) (args .work .now) _ (admit .ensures) (enum-told .given .1)
 
 slice-aggregate-write : tie.Need-slice-aggregate-write
 slice-aggregate-write c =
     let args = c .before .before .before .before .before .before .before .before .before .before .args in
-    let shared-slice-known = c .before .before .before .before .before .before .before .before .before .shared-slice-known in
-    let shared-slice-known2 = c .before .before .before .before .before .before .before .before .shared-slice-known2 in
     let admit = c .before .before .before .before .before .admit in
     let enum-told = c .before .before .before .enum-told in
-    lent (args .pass) (args .card .now) (args .root .now) (args .out .now) (args .work .now) (λ i. shared-slice-known .given i .fits)
-    (λ i. shared-slice-known2 .given i .fits) _ (admit .ensures) (enum-told .given .1)
+    lent (args .card .now) (args .root .now) (args .work .now) _ (admit .ensures) (enum-told .given .1)
 
 write-requires : tie.Need-write-requires
 write-requires c κs = search needs

@@ -1,5 +1,6 @@
 -- `shortening_places::shorten_places` meets its contract, by the laws of Kept. Assumes nothing.
-use Rattle.shortening_places.proofs.Kept.{refused, enough, lent, kept}
+use Rattle.admission.proofs.Lent.{enough, lent}
+use Rattle.shortening_places.proofs.Kept.{refused, kept}
 use borrow.Author.Needs.{needs}
 use Rattle.shortening_places.proofs.shorten_places.Statement.{statement}
 use Rattle.shortening_places.proofs.shorten_places.Tie as tie
@@ -27,21 +28,15 @@ slice-relend-prefix-write-places : tie.Need-slice-relend-prefix-write-places
 slice-relend-prefix-write-places c =
     let enum-told = c .before .enum-told in
     let admit = c .before .before .before .admit in
-    let shared-slice-known2 = c .before .before .before .before .before .before .before .shared-slice-known2 in
-    let shared-slice-known = c .before .before .before .before .before .before .before .before .shared-slice-known in
     let args = c .before .before .before .before .before .before .before .before .before .args in
-    enough (args .pass) (args .card .now) (args .root .now) (args .out .now) (args .work .now) (args .list .now) (λ i. shared-slice-known .given i .fits)
-    (λ i. shared-slice-known2 .given i .fits) _ (admit .ensures) (enum-told .given .1)
+    enough (args .card .now) (args .root .now) (args .work .now) _ (admit .ensures) (enum-told .given .1)
 
 slice-aggregate-write-places : tie.Need-slice-aggregate-write-places
 slice-aggregate-write-places c =
     let enum-told = c .before .before .enum-told in
     let admit = c .before .before .before .before .admit in
-    let shared-slice-known2 = c .before .before .before .before .before .before .before .before .shared-slice-known2 in
-    let shared-slice-known = c .before .before .before .before .before .before .before .before .before .shared-slice-known in
     let args = c .before .before .before .before .before .before .before .before .before .before .args in
-    lent (args .pass) (args .card .now) (args .root .now) (args .out .now) (args .work .now) (args .list .now) (λ i. shared-slice-known .given i .fits)
-    (λ i. shared-slice-known2 .given i .fits) _ (admit .ensures) (enum-told .given .1)
+    lent (args .card .now) (args .root .now) (args .work .now) _ (admit .ensures) (enum-told .given .1)
 
 write-places-requires : tie.Need-write-places-requires
 write-places-requires c κs = search needs

@@ -1,10 +1,11 @@
-//! Shortening in Rust, twice, and cards to hold them against the proved code.
+//! Shortening in Rust, twice, reading alone, and cards to hold them against the proved code.
 pub mod cards;
 pub mod classes;
 #[cfg(feature = "console")]
 pub mod console;
 pub mod own;
 pub mod random;
+pub mod reader;
 mod rows;
 pub mod stated;
 #[cfg(test)]

@@ -8,7 +8,7 @@ use std::process::ExitCode;
 use std::time::{Duration, Instant};
 use yardstick::random::Cards;
 use yardstick::text::{self, Vector};
-use yardstick::{classes, own, tree, Answer, Operation, MOST_CARD, MOST_TIMES, WORDS};
+use yardstick::{classes, own, reader, tree, Answer, Operation, MOST_CARD, MOST_TIMES, WORDS};
 
 const USAGE: &str = "\
 shortening [--vectors FILE] [--places FILE] [--straight FILE] [--cards N] [--seed S]
@@ -18,7 +18,8 @@ shortening places FILE                   only those to vectors with lists of pla
 shortening straight FILE                 only those to vectors of straight shortening
 shortening random [N [SEED]]             only those to random cards
 shortening only WAY CLASS TIMES [FILE]   for a profiler: console, tree or walk over a class, straight shortening
-                                         if +straight stands behind its name, with a list if +list does";
+                                         if +straight stands behind its name, with a list if +list does
+shortening reading WAY CLASS TIMES [FILE]  the same with cards that are only read: console or reader";
 
 /// What the vectors of each file are called.
 const VECTORS: &str = "vectors";
@@ -117,28 +118,58 @@ impl Class {
         start.elapsed()
     }
 
-    /// Microseconds of a card by each racer, the median of the rounds.
+    /// Microseconds of a card by each racer.
     fn measure(&self, racers: &[Racer], out: &mut [u8], list: &mut [u32]) -> Vec<f64> {
-        let passes: Vec<usize> = racers
-            .iter()
-            .map(|&racer| {
-                1 + TURN.as_nanos() as usize / (1 + self.turn(racer, 1, out, list).as_nanos() as usize)
-            })
-            .collect();
-        let mut times = vec![Vec::new(); racers.len()];
-        for round in 0..ROUNDS {
-            // Another goes first each time.
-            for i in 0..racers.len() {
-                let i = (round + i) % racers.len();
-                times[i].push(self.turn(racers[i], passes[i], out, list));
-            }
-        }
-        let median = |(mut times, passes): (Vec<Duration>, usize)| {
-            times.sort();
-            times[ROUNDS / 2].as_secs_f64() * 1e6 / (passes * self.cases.len()) as f64
-        };
-        times.into_iter().zip(passes).map(median).collect()
+        medians(self.cases.len(), racers.len(), |i, passes| self.turn(racers[i], passes, out, list))
     }
+
+    /// Its sound cards with a byte behind them: read to their end, and refused there.
+    fn only_read(&self, out: &mut [u8]) -> Class {
+        let sound = self.cases.iter().filter(|c| reader::admit(&c.card, &c.root, c.words).is_ok());
+        let read = sound.filter(|c| c.card.len() < MOST_CARD).map(|c| {
+            let mut card = c.card.clone();
+            card.push(0);
+            Case::new(c.root.clone(), card, c.out, c.words)
+        });
+        let class = Class { what: self.what.clone(), cases: read.collect() };
+        for case in &class.cases {
+            let due = Err((7, case.card.len() as u32 - 1));
+            assert!(READERS.iter().all(|(_, read)| read(case, out) == due), "read otherwise");
+        }
+        class
+    }
+
+    fn read(&self, read: Reader, passes: usize, out: &mut [u8]) -> Duration {
+        self.time(passes, |case| read(case, black_box(out)))
+    }
+}
+
+/// A card that is refused by reading.
+type Reader = fn(&Case, &mut [u8]) -> Answer;
+
+const READERS: [(&str, Reader); 2] = [
+    (WAYS[0].what, |case, out| case.call(&WAYS[0], Operation::Upstream, out)),
+    ("reader", |case, _| reader::admit(&case.card, &case.root, case.words).map(|()| 0)),
+];
+
+/// Microseconds of a card by each of some racers, given what a turn of so many passes takes: the median of the
+/// rounds.
+fn medians(cards: usize, racers: usize, mut turn: impl FnMut(usize, usize) -> Duration) -> Vec<f64> {
+    let passes: Vec<usize> =
+        (0..racers).map(|i| 1 + TURN.as_nanos() as usize / (1 + turn(i, 1).as_nanos() as usize)).collect();
+    let mut times = vec![Vec::new(); racers];
+    for round in 0..ROUNDS {
+        // Another goes first each time.
+        for i in 0..racers {
+            let i = (round + i) % racers;
+            times[i].push(turn(i, passes[i]));
+        }
+    }
+    let median = |(mut times, passes): (Vec<Duration>, usize)| {
+        times.sort();
+        times[ROUNDS / 2].as_secs_f64() * 1e6 / (passes * cards) as f64
+    };
+    times.into_iter().zip(passes).map(median).collect()
 }
 
 fn report(classes: &[Class], out: &mut [u8], list: &mut [u32]) {
@@ -165,6 +196,23 @@ fn report(classes: &[Class], out: &mut [u8], list: &mut [u32]) {
         without.iter().for_each(|time| print!("  {time:9.2}"));
         ratios().for_each(|(i, j)| print!("  {:12.2}", without[i] / without[j]));
         println!("  {:9.2}  {:8.2}", with[0] / with[1], straight[0] / straight[1]);
+    }
+}
+
+/// Reading alone.
+fn report_reading(classes: &[Class], out: &mut [u8]) {
+    println!("reading: the same cards with a byte behind them, read to their end and refused there");
+    print!("{:10}  {:>8}", "class", "bytes in");
+    READERS.iter().for_each(|(what, _)| print!("  {what:>9}"));
+    println!("  {:>14}", READERS.map(|(what, _)| what).join("/"));
+    for class in classes {
+        let class = class.only_read(out);
+        let bytes: usize = class.cases.iter().map(|c| c.card.len()).sum();
+        let times =
+            medians(class.cases.len(), READERS.len(), |i, passes| class.read(READERS[i].1, passes, out));
+        print!("{:10}  {:8}", class.what, bytes / class.cases.len());
+        times.iter().for_each(|time| print!("  {time:9.2}"));
+        println!("  {:14.2}", times[0] / times[1]);
     }
 }
 
@@ -217,6 +265,7 @@ fn run(files: Files, cards: usize, seed: u64) -> Result<bool, String> {
     }
     classes.extend(as_class(vectors));
     report(&classes, &mut buffers.out, &mut buffers.list[..LONG]);
+    report_reading(&classes, &mut buffers.out);
     Ok(true)
 }
 
@@ -235,13 +284,25 @@ fn racer(name: &str) -> Result<Racer, String> {
     Ok(racer)
 }
 
-fn only(way: &str, class: &str, times: &str, file: Option<&str>) -> Result<bool, String> {
+/// A class by its name, and buffers for it.
+fn class(name: &str, file: Option<&str>) -> Result<(Class, Buffers), String> {
     let vectors = of_file(text::vectors, file)?;
-    let mut buffers = Buffers::new(&vectors);
-    let mut classes = of_classes();
-    classes.extend(as_class(vectors));
-    let class = classes.iter().find(|c| c.what == class).ok_or("no such class")?;
+    let buffers = Buffers::new(&vectors);
+    let classes = of_classes().into_iter().chain(as_class(vectors));
+    let class = { classes }.find(|c| c.what == name).ok_or("no such class")?;
+    Ok((class, buffers))
+}
+
+fn only(way: &str, name: &str, times: &str, file: Option<&str>) -> Result<bool, String> {
+    let (class, mut buffers) = class(name, file)?;
     class.turn(racer(way)?, number(times)?, &mut buffers.out, &mut buffers.list[..LONG]);
+    Ok(true)
+}
+
+fn only_reading(way: &str, name: &str, times: &str, file: Option<&str>) -> Result<bool, String> {
+    let (class, mut buffers) = class(name, file)?;
+    let (_, reader) = READERS.iter().find(|(what, _)| *what == way).ok_or("no such way")?;
+    class.only_read(&mut buffers.out).read(*reader, number(times)?, &mut buffers.out);
     Ok(true)
 }
 
@@ -262,6 +323,8 @@ fn asked(words: &[&str]) -> Result<bool, String> {
         }
         ["only", way, class, times] => only(way, class, times, None),
         ["only", way, class, times, file] => only(way, class, times, Some(file)),
+        ["reading", way, class, times] => only_reading(way, class, times, None),
+        ["reading", way, class, times, file] => only_reading(way, class, times, Some(file)),
         ref options => {
             let mut files = Files::default();
             let (mut cards, mut seed) = (CARDS, SEED);

@@ -4,7 +4,7 @@ use crate::cards::*;
 use crate::random::Cards;
 use crate::stated::{self, constants, short, wrapped};
 use crate::Operation::{Straight, Upstream};
-use crate::{own, tree, walk, Answer, Listed, Operation, MOST_TIMES, MOST_TIMES_STRAIGHT, WORDS};
+use crate::{own, reader, tree, walk, Answer, Listed, Operation, MOST_TIMES, MOST_TIMES_STRAIGHT, WORDS};
 use std::collections::BTreeSet;
 
 /// The answer of both, and the output. With a list they give the same, and the places of the changed points.
@@ -18,6 +18,9 @@ fn shorten(operation: Operation, card: &[u8], root: &[u8], lent: usize, words: u
     });
     assert_eq!(first, second);
     let (answer, output) = &first;
+    // Reading alone refuses by 1 to 7, as they do, and goes no further.
+    let read = reader::admit(card, root, words);
+    assert_eq!(read.err(), answer.err().filter(|&(number, _)| number <= 7));
     let places = answer.map_or(vec![], |_| places(card, output));
     let most = places.len();
     let bytes = answer.map_or(lent, |length| length + 3);

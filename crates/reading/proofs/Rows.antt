@@ -8,8 +8,8 @@ use native.Mathlib.Nat.{pow-suc, le-of-suc-le-suc, not-suc-le-zero}
 use native.Mathlib.Omega.{arith}
 use native.Mathlib.Decide.{decLe}
 use lib.ListN.{length, getD}
-use lib.Dec.{eqb}
-use borrow.Author.Tests.{eqb-true, eqb-false, le-leb, lt-leb, eq-eqb, ne-eqb}
+use lib.Dec.{eqb, ltb}
+use borrow.Author.Tests.{eqb-true, eqb-false, ltb-false, le-leb, lt-leb, eq-eqb, ne-eqb}
 use Rattle.answers.specs.declared.Answer.the-variants.{ShortRecord}
 use Rattle.answers.specs.declared.Verdict.the-variants.{Sound, Refused}
 use Rattle.wire.specs.Numbers.{Bytes, num}
@@ -17,7 +17,8 @@ use Rattle.records.specs.Kinds.{Place, stands, rowOf, Content, bytes, these, an
 use Rattle.records.specs.Reading.{leftOver, record-at, next}
 use Rattle.rast.proofs.Tests.{by-test}
 use Rattle.rows.specs.Codes.{placeOf, codeOf, table}
-use Rattle.rows.proofs.Codes.{Coded, AllCoded, row-coded, row-short, inner-kind, content-one, content-seq, content-option, base-seq, base-option}
+use Rattle.rows.proofs.Codes.{Coded, AllCoded, code-first, code-rest, row-coded, row-short, row-past, inner-kind}
+use Rattle.rows.proofs.Codes.{content-one, content-seq, content-option, base-seq, base-option}
 use Rattle.rows.proofs.Tables.{table-at}
 use Rattle.reading.specs.Reads.{reads}
 use Rattle.reading.specs.Codes.{Valid, many, placesIn, rowContent, rowAfter, rowEnds, rowIn, AllValid, Good, again, fields}
@@ -135,28 +136,22 @@ row-end left at row (fields m v) =
     (reads-none left (these (placeOf (row % 256) ∷ placesIn 7 (row / 256))) at (placeOf (row % 256)) (these (placesIn 7 (row / 256))) refl))
 
 -- the number of places that have numbers is a row of them
-module _ (p : Place) (r : ℕ) (c : Coded p) where
-  low : (codeOf p + 256 * r) % 256 ≡ codeOf p
-  low = let b = c .number .below in omega arith
-
-  high : (codeOf p + 256 * r) / 256 ≡ r
-  high = let b = c .number .below in omega arith
-
-  code-valid : Valid (codeOf p)
-  code-valid =
-      let n = c .number in
-      record {
-        small = n .below;
-        some-seq = λ e. (let s = n .some (c .more) in omega arith);
-        some-option = λ e. (let s = n .some (c .more) in omega arith);
-      }
+code-valid : (p : Place) → Coded p → Valid (codeOf p)
+code-valid p c =
+    let n = c .number in
+    record {
+      small = n .below;
+      some-seq = λ e. (let s = n .some (c .more) in omega arith);
+      some-option = λ e. (let s = n .some (c .more) in omega arith);
+    }
 
 codes-valid : (ps : List Place) → AllCoded ps → (n : ℕ) → length ps ≤ n → AllValid n (num (map codeOf ps))
 unfolding AllCoded AllValid num
 codes-valid [] a n h = valid-none n
 codes-valid (p ∷ ps) a zero h = absurd (not-suc-le-zero h)
 codes-valid (p ∷ ps) a (suc n) h =
-    (rw (low p (num (map codeOf ps)) (a .0)) (code-valid p 0 (a .0)), rw (high p (num (map codeOf ps)) (a .0)) (codes-valid ps (a .1) n (le-of-suc-le-suc h)))
+    let r : ℕ = num (map codeOf ps) in
+    (rw (code-first p r (a .0)) (code-valid p (a .0)), rw (code-rest p r (a .0)) (codes-valid ps (a .1) n (le-of-suc-le-suc h)))
 
 codes-places : (ps : List Place) → AllCoded ps → (n : ℕ) → length ps ≤ n → placesIn n (num (map codeOf ps)) ≡ ps
 unfolding AllCoded num
@@ -165,9 +160,9 @@ codes-places (p ∷ ps) a zero h = absurd (not-suc-le-zero h)
 codes-places (p ∷ ps) a (suc n) h =
     let r : ℕ = num (map codeOf ps) in
     let m = a .0 .more in
-    let l = low p r (a .0) in
+    let l = code-first p r (a .0) in
     places-some n (codeOf p + 256 * r) (λ z. omega arith)
-    ∙ rw (l, high p r (a .0), a .0 .is, codes-places ps (a .1) n (le-of-suc-le-suc h))
+    ∙ rw (l, code-rest p r (a .0), a .0 .is, codes-places ps (a .1) n (le-of-suc-le-suc h))
 
 -- the row of a kind
 abbrev rowNumber : ℕ → ℕ
@@ -187,8 +182,11 @@ row-content k =
     let s = row-short k in
     content-fields (rowNumber k) (row-below k) ∙ ap these (codes-places (rowOf k) (row-coded k) 8 (omega arith))
 
-pub row-read : (t : List ℕ) (x k : ℕ) → t ≡ table → x ≡ getD t k 0 → x ≡ num (map codeOf (rowOf k))
-row-read t x k e r = r ∙ ap (λ (y : List ℕ). getD y k 0) e ∙ table-at k
+pub row-read : (t : List ℕ) (x k : ℕ) → t ≡ table → x ≡ cond (ltb k 135) (getD t k 0) 0 → x ≡ num (map codeOf (rowOf k))
+unfolding num
+row-read t x k e r =
+    r ∙ ap (λ (y : List ℕ). cond (ltb k 135) (getD y k 0) 0) e
+    ∙ by-test (ltb k 135) (λ b. rw b (table-at k)) (λ b. rw (b, row-past k (ltb-false k 135 b)))
 
 -- a number's three ranges
 ranges : {X : Type 0} (c : ℕ) → (c < 32 → X) → (32 ≤ c → c < 64 → X) → (64 ≤ c → X) → X

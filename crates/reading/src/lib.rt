@@ -16,7 +16,7 @@ ghost use Rattle.reading.specs.Codes.{rowContent, rowAfter, rowEnds, row
 const MANY: u64 = 4611686018427387904;
 
 // The row of a record of kind k that stands at place p and is not empty.
-fn row_in(p: usize, k: usize, t: &[u64]) -> u64
+fn row_in(p: usize, k: usize, t: &[u64; 135]) -> u64
     requires { ⌜ (p < 96) × (now t ≡ table) ⌝ }
     ensures { λ r. ⌜ r ≡ rowIn p k ⌝ }
 {
@@ -50,8 +50,16 @@ fn may_end(row: u64) -> bool
 }
 
 // The bytes of the card from one place to another, as the content of a row whose records may go this deep. The answer is one number: 0, or the
-// place of a fault eight times and its number. A record that ends its parent is read on with, not entered.
-fn read_content(card: &[u8], from: usize, to: usize, first: u64, deep: usize, t: &[u64]) -> usize
+// place of a fault eight times and its number. A record that ends its parent is read on with, not entered. What may_stand found out of the
+// place is used right behind it, so that it is branched on once; depth is tested in either branch.
+fn read_content(
+    card: &[u8],
+    from: usize,
+    to: usize,
+    first: u64,
+    deep: usize,
+    t: &[u64; 135],
+) -> usize
     requires { ⌜ (Good first) × (from ≤ to) × (to ≤ length (now card)) × (to < 2 ^ 60) × (now t ≡ table) ⌝ }
     ensures { λ r. ⌜ said r ≡ reads deep (rowContent first) from (between (now (card .entry)) from to) ⌝ }
 {
@@ -71,15 +79,19 @@ fn read_content(card: &[u8], from: usize, to: usize, first: u64, deep: usize, t:
         if !rows::may_stand(p, k) {
             return 8 * i + 5;
         }
-        if left == 0 {
-            return 8 * i + 6;
-        }
         let e = i + 4 + reader::record_length(s);
         let after = row_after(row);
         if p < 4 {
+            if left == 0 {
+                return 8 * i + 6;
+            }
             i = e;
             row = after;
             continue;
+        }
+        let inner = row_in(p, k, t);
+        if left == 0 {
+            return 8 * i + 6;
         }
         if e == i + 6 {
             if !may_end(rows::row_at(t, k)) {
@@ -89,7 +101,6 @@ fn read_content(card: &[u8], from: usize, to: usize, first: u64, deep: usize, t:
             row = after;
             continue;
         }
-        let inner = row_in(p, k, t);
         if e == to {
             if may_end(after) {
                 i += 6;
@@ -133,7 +144,7 @@ fn verdict(v: usize) -> Verdict
 }
 
 // Exactly one record at place p, at most limit deep. Of what follows it one byte is looked at.
-fn read_one(s: &[u8], p: u64, limit: usize, t: &[u64]) -> Verdict
+fn read_one(s: &[u8], p: u64, limit: usize, t: &[u64; 135]) -> Verdict
     requires { ⌜ (0 < p) × (p < 32) × (now t ≡ table) ⌝ }
     ensures { λ r. ⌜ r ≡ reading limit (placeOf p) (now (s .entry)) ⌝ }
 {

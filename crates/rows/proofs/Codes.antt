@@ -1,13 +1,12 @@
 -- The laws of the places as numbers. What holds of every row rests on one test over all rows, what holds of every place of one record on one
 -- test over those, and antt computes both. Assumes nothing.
-use mathlib.Core.Path.{_≡_, refl, sym, ap, ap₂, subst, _∙_}
+use mathlib.Core.Path.{_≡_, refl, sym, ap, ap₂, _∙_}
 use mathlib.Core.List.{List, [], _∷_}
 use mathlib.Core.Bool.{Bool, true, false, _&&_, _||_, cond, false≢true}
-use Prim.Native.Nat.{ℕ, zero, suc, _+_, _-_, _%_, _<_, _≤_}
-use native.Mathlib.Nat.{add-zero, zero-add, add-suc, suc-add, le-of-suc-le-suc, not-suc-le-zero}
+use Prim.Native.Nat.{ℕ, zero, suc, _+_, _-_, _*_, _/_, _%_, _<_, _≤_}
 use native.Mathlib.Omega.{arith}
 use native.Mathlib.Decide.{decLt}
-use lib.ListN.{length, getD, List·getD-eq-default}
+use lib.ListN.{length, List·getD-eq-default}
 use lib.Dec.{eqb, leb, ltb}
 use borrow.Author.Tests.{eqb-true, ltb-true, leb-true, le-leb, lt-leb, le-ltb, ne-eqb}
 use Rattle.records.specs.Record.{isLeaf}
@@ -15,17 +14,18 @@ use Rattle.records.specs.Kinds.{Place, kinds, name, seq, option, one, Row, rows
 use Rattle.records.proofs.Run.{both, within}
 use Rattle.rows.specs.Codes.{bases, baseOf, placeOf, samePlace, codeOf}
 
--- a test at each element of a list and its place, counted from i; and at the element of a place
-abbrev pub every : {A : Type 0} → (ℕ → A → Bool) → ℕ → List A → Bool
-every f i [] = true
-every f i (x ∷ xs) = f i x && every f (suc i) xs
+-- a test at each of n numbers from a on
+abbrev pub each : (ℕ → Bool) → ℕ → ℕ → Bool
+each f zero a = true
+each f (suc n) a = f a && each f n (suc a)
 
-pub at : {A : Type 0} (f : ℕ → A → Bool) (xs : List A) (i : ℕ) → every f i xs ≡ true → (k : ℕ) (d : A) → k < length xs → f (i + k) (getD xs k d) ≡ true
-at f [] i t k d h = absurd (not-suc-le-zero h)
-at f (x ∷ xs) i t zero d h = rw (add-zero i) (both (f i x) (every f (suc i) xs) t .0)
-at f (x ∷ xs) i t (suc k) d h =
-    subst (λ (m : ℕ). f m (getD xs k d) ≡ true) (suc-add i k ∙ sym (add-suc i k))
-    (at f xs (suc i) (both (f i x) (every f (suc i) xs) t .1) k d (le-of-suc-le-suc h))
+pub each-at : (f : ℕ → Bool) (n a : ℕ) → each f n a ≡ true → (k : ℕ) → a ≤ k → k < a + n → f k ≡ true
+each-at f zero a t k l h = absurd (omega arith)
+each-at f (suc n) a t k l h =
+    elim (decLt a k) [
+      | yes g ↦ each-at f n (suc a) (both (f a) (each f n (suc a)) t .1) k (omega arith) (omega arith)
+      | no g ↦ let e : k ≡ a = omega arith in rw e (both (f a) (each f n (suc a)) t .0)
+    ]
 
 -- two places that test the same are the same
 samePlace-true : (p q : Place) → samePlace p q ≡ true → p ≡ q
@@ -117,6 +117,13 @@ right-place p t =
       more = omega arith;
     }
 
+-- its number is the lowest byte of a row that starts with it, and what follows is above
+pub code-first : (p : Place) (r : ℕ) → Coded p → (codeOf p + 256 * r) % 256 ≡ codeOf p
+code-first p r c = let b = c .number .below in omega arith
+
+pub code-rest : (p : Place) (r : ℕ) → Coded p → (codeOf p + 256 * r) / 256 ≡ r
+code-rest p r c = let b = c .number .below in omega arith
+
 -- each place of a row has a number
 unfoldable pub AllCoded : List Place → Type 0
 AllCoded [] = Unit {0}
@@ -179,7 +186,7 @@ base-past c h = List·getD-eq-default bases (one 0) {n = c} h
 base-one : (c : ℕ) → oneAt c (baseOf c) ≡ true
 base-one c =
     elim (decLt c 27) [
-      | yes h ↦ rw (zero-add c) at (at oneAt bases 0 refl c (one 0) h)
+      | yes h ↦ each-at (λ i. oneAt i (baseOf i)) 27 0 refl c (omega arith) (omega arith)
       | no h ↦ ap (oneAt c) (base-past c (omega arith))
     ]
 
@@ -197,7 +204,8 @@ pub inner-kind : (c k : ℕ) → 3 < c → c < 32 → stands (placeOf c) k ≡ t
 unfolding innerAt
 inner-kind c k h l t =
     elim (decLt c 27) [
-      | yes g ↦ go (baseOf c) (rw (zero-add c) at (at innerAt bases 0 refl c (one 0) g)) (sym (ap (λ (q : Place). stands q k) (place-one c l)) ∙ t)
+      | yes g ↦ go (baseOf c) (each-at (λ i. innerAt i (baseOf i)) 27 0 refl c (omega arith) (omega arith))
+          (sym (ap (λ (q : Place). stands q k) (place-one c l)) ∙ t)
       | no g ↦ (let e = within 0 0 k (sym (ap (λ (q : Place). stands q k) (place-one c l ∙ base-past c (omega arith))) ∙ t) in
           let z : k ≡ 0 = omega arith in ap isLeaf z)
     ]

@@ -1,2 +1,4 @@
 pub mod Codes
+pub mod Fields
+pub mod Runs
 pub mod Tables

@@ -1,7 +1,10 @@
 // The rows of child places, one for each kind, and which kinds may stand at a place. A place is a number: 0 is none, 1 to 0x1A one record,
-// 0x20 more a seq of it, 0x40 more an Option of it. FIRST names the places of one record.
+// 0x20 more a seq of it, 0x40 more an Option of it. leaf_at and place_of name the places of one record.
 ghost use mathlib.Core.Path.{_≡_};
+ghost use mathlib.Core.Bool.{cond};
+ghost use Prim.Native.Nat.{ℕ, _<_, _≤_};
 ghost use lib.ListN.{getD};
+ghost use lib.Dec.{eqb, ltb};
 ghost use Rattle.records.specs.Kinds.{stands};
 ghost use Rattle.rows.specs.Codes.{placeOf, table as Codes·table};
 
@@ -144,67 +147,6 @@ const ROWS: [u64; 135] = [
     0x06, // 0x86 ImplMemberMacro(expr)
 ];
 
-// The first and the last kind that may stand at each place of one record.
-const FIRST: [u8; 27] = [
-    0, // 0x00 none
-    0x01, // 0x01 Text
-    0x03, // 0x02 Kept
-    0x01, // 0x03 the Text of a PMemberSelect
-    0x10, // 0x04 Path
-    0x20, // 0x05 Type
-    0x40, // 0x06 Expr
-    0x60, // 0x07 Mod or ExternMod
-    0x62, // 0x08 ModDecl
-    0x70, // 0x09 Struct
-    0x71, // 0x0A TypeSynonym
-    0x72, // 0x0B Constant
-    0x73, // 0x0C Enum
-    0x74, // 0x0D EnumCase
-    0x75, // 0x0E Fields
-    0x77, // 0x0F Field
-    0x78, // 0x10 NamelessField
-    0x79, // 0x11 Impl
-    0x7B, // 0x12 Trait
-    0x7C, // 0x13 TopFn
-    0x7D, // 0x14 Fn
-    0x7E, // 0x15 Formal
-    0x7F, // 0x16 TypeParamDecl
-    0x80, // 0x17 Use
-    0x81, // 0x18 MatchCase
-    0x82, // 0x19 AssignIdentifier
-    0x83, // 0x1A ImplMember
-];
-
-const LAST: [u8; 27] = [
-    0, // 0x00 none
-    0x01, // 0x01 Text
-    0x03, // 0x02 Kept
-    0x01, // 0x03 the Text of a PMemberSelect
-    0x13, // 0x04 Path
-    0x38, // 0x05 Type
-    0x5E, // 0x06 Expr
-    0x61, // 0x07 Mod or ExternMod
-    0x6A, // 0x08 ModDecl
-    0x70, // 0x09 Struct
-    0x71, // 0x0A TypeSynonym
-    0x72, // 0x0B Constant
-    0x73, // 0x0C Enum
-    0x74, // 0x0D EnumCase
-    0x76, // 0x0E Fields
-    0x77, // 0x0F Field
-    0x78, // 0x10 NamelessField
-    0x7A, // 0x11 Impl
-    0x7B, // 0x12 Trait
-    0x7C, // 0x13 TopFn
-    0x7D, // 0x14 Fn
-    0x7E, // 0x15 Formal
-    0x7F, // 0x16 TypeParamDecl
-    0x80, // 0x17 Use
-    0x81, // 0x18 MatchCase
-    0x82, // 0x19 AssignIdentifier
-    0x86, // 0x1A ImplMember
-];
-
 // The rows, for a walk to make once and lend on: a constant that is read in place is written out anew each time.
 pub fn table() -> [u64; 135]
     ensures { λ r. ⌜ r ≡ Codes·table ⌝ }
@@ -213,27 +155,58 @@ pub fn table() -> [u64; 135]
 }
 
 // The row of kind k, by a table of rows; 0, which names no place, past its end.
-pub fn row_at(t: &[u64], k: usize) -> u64
-    ensures { λ r. ⌜ r ≡ getD (now (t .entry)) k 0 ⌝ }
+pub fn row_at(t: &[u64; 135], k: usize) -> u64
+    ensures { λ r. ⌜ r ≡ cond (ltb k 135) (getD (now (t .entry)) k 0) 0 ⌝ }
 {
-    if k < t.len() {
+    if k < 135 {
         return t[k];
     }
     0
+}
+
+// The one kind that may stand at a place under 4.
+fn leaf_at(p: usize) -> usize
+    requires { ⌜ p < 4 ⌝ }
+    ensures { λ r. ⌜ ((k : ℕ) → eqb k r ≡ stands (placeOf p) k) ⌝ }
+{
+    match p {
+        0x00 => 0, // none
+        0x02 => 0x03, // Kept
+        _ => 0x01, // Text, also that of a PMemberSelect
+    }
+}
+
+// The one place from 4 to 0x1A at which a kind may stand; 0 where there is none. The kinds lie in runs, of one place or of places that rise with
+// the kind. An arm for each kind of the latter would be compiled to a table.
+fn place_of(k: usize) -> usize
+    ensures { λ r. ⌜ ((p : ℕ) → 4 ≤ p → p < 27 → eqb p r ≡ stands (placeOf p) k) ⌝ }
+{
+    match k {
+        0x10..=0x13 => 0x04, // Path
+        0x20..=0x38 => 0x05, // Type
+        0x40..=0x5E => 0x06, // Expr
+        0x60..=0x61 => 0x07, // Mod or ExternMod
+        0x62..=0x6A => 0x08, // ModDecl
+        // 0x09 Struct, 0x0A TypeSynonym, 0x0B Constant, 0x0C Enum, 0x0D EnumCase, 0x0E Fields
+        0x70..=0x75 => k - 0x67,
+        // 0x0E Fields again, 0x0F Field, 0x10 NamelessField, 0x11 Impl
+        0x76..=0x79 => k - 0x68,
+        // 0x11 Impl again, 0x12 Trait, 0x13 TopFn, 0x14 Fn, 0x15 Formal, 0x16 TypeParamDecl, 0x17 Use, 0x18 MatchCase,
+        // 0x19 AssignIdentifier, 0x1A ImplMember
+        0x7A..=0x83 => k - 0x69,
+        0x84..=0x86 => 0x1A, // ImplMember again
+        _ => 0,
+    }
 }
 
 // Whether a kind may stand at a place.
 pub fn may_stand(p: usize, k: usize) -> bool
     ensures { λ r. ⌜ r ≡ stands (placeOf p) k ⌝ }
 {
-    if 32 <= p {
-        return k == 2;
+    match p {
+        0x00..=0x03 => k == leaf_at(p),
+        0x04..=0x1A => p == place_of(k),
+        0x1B..=0x1F => k == 0, // none
+        _ => k == 0x02, // a seq or an Option
     }
-    if 27 <= p {
-        return k == 0;
-    }
-    if k < wire::wide(FIRST[p]) {
-        return false;
-    }
-    k <= wire::wide(LAST[p])
 }

@@ -1,11 +1,12 @@
 -- `reading::read_content` meets its contract. It calls itself, and what falls is how deep records may go. Each need is a law of Turns.
 -- Assumes nothing.
-use Prim.Native.Nat.{ℕ, _+_, _-_, _<_}
+use mathlib.Core.Path.{_≡_}
+use Prim.Native.Nat.{ℕ, _+_, _-_, _*_, _<_}
 use native.Mathlib.Omega.{arith}
 use borrow.Author.Needs.{needs}
 use Rattle.wire.specs.Numbers.{between}
 use Rattle.reading.specs.Reads.{reads}
-use Rattle.reading.specs.Codes.{rowContent}
+use Rattle.reading.specs.Codes.{rowContent, said}
 use Rattle.reading.proofs.Rows.{good-valid, row-read}
 use Rattle.reading.proofs.Turns.{Turn, turn-start, turn-end, turn-cut, turn-left, turn-short, turn-wrong, turn-deep, Head, head}
 use Rattle.reading.proofs.Turns.{turn-leaf, turn-empty, turn-hollow, turn-good, turn-last, turn-fault, turn-inner}
@@ -58,59 +59,71 @@ calls t = (
   record-length-reads.Learnt,
   row-after-reads.Asked,
   row-after-reads.Learnt,
+  row-in-reads.Asked,
+  row-in-reads.Learnt,
   row-at-reads.Asked,
   row-at-reads.Learnt,
   may-end-reads.Asked,
   may-end-reads.Learnt,
-  row-in-reads.Asked,
-  row-in-reads.Learnt,
   below t,
   read-content.Post,
 )
 
--- at a record whose own tests are passed: the turn, the function's start, and what is known
+-- at a record whose kind may stand there: the turn, the function's start, and what is known where it is not too deep and where it is
 abbrev Passed : ℕ → Type 0
 Passed t = lts.After-row-after (calls t) (at-depth t) read-content.Post Inv-loop μ-loop
 
 abbrev turn-of : (t : ℕ) → Passed t → lts.In-loop (calls t) (at-depth t) read-content.Post Inv-loop μ-loop
-turn-of t c = c .before .before .before .before .before .before .before .before .before .before
+turn-of t c = c .before .before .before .before .before .before .before .before .before
 
 abbrev start-of : (t : ℕ) → Passed t → lts.Start (calls t) (at-depth t) read-content.Post Inv-loop μ-loop
-start-of t c = turn-of t c .before .before .before .before
+start-of t c = turn-of t c .before .before .before
 
 passed : (t : ℕ) (c : Passed t) →
     let a = start-of t c .args in
     let l = turn-of t c .before .loop in
+    (l .left ≡ 0 → ⊥) →
     Head (reads (a .deep) (rowContent (a .first)) (a .from) (between (a .card .now) (a .from) (a .to))) (a .card .now) (a .to) (a .deep)
-    (l .i) (l .row) (l .left) (c .before .before .before .before .before .record-kind .result)
+    (l .i) (l .row) (l .left) (c .before .before .before .before .record-kind .result)
     (l .i + 4 + c .before .record-length .result) (c .row-after .result)
-passed t c =
-    let stand = c .before .before .before .before in
+passed t c deeper =
+    let stand = c .before .before .before in
     let short = stand .before .before in
     head (turn-of t c .before .loop .inv) (turn-of t c .loop-test .taken) (start-of t c .pre .1 .2) (short .before .before .before .if1 .left)
     (short .before .is-short .ensures) (short .if2 .left) (stand .before .record-kind .ensures .0) (stand .may-stand .ensures)
-    (c .before .before .before .if3 .left) (c .before .before .if4 .left) (c .before .record-length .ensures .0) (c .row-after .ensures)
+    (c .before .before .if3 .left) deeper (c .before .record-length .ensures .0) (c .row-after .ensures)
+
+bottom : (t : ℕ) (c : Passed t) →
+    let a = start-of t c .args in
+    let l = turn-of t c .before .loop in
+    l .left ≡ 0 → said (8 * l .i + 6) ≡ reads (a .deep) (rowContent (a .first)) (a .from) (between (a .card .now) (a .from) (a .to))
+bottom t c none =
+    let stand = c .before .before .before in
+    let short = stand .before .before in
+    turn-deep (turn-of t c .before .loop .inv) (turn-of t c .loop-test .taken) (start-of t c .pre .1 .2) (short .before .before .before .if1 .left)
+    (short .before .is-short .ensures) (short .if2 .left) (stand .before .record-kind .ensures .0) (stand .may-stand .ensures)
+    (c .before .before .if3 .left) none
 
 loop-holds : (t : ℕ) → lts.Need-loop-holds (calls t) (at-depth t) read-content.Post Inv-loop μ-loop
-loop-holds t c = turn-start _ _ _ _ _ (c .before .before .pre .1 .0) (c .before .before .pre .1 .1)
+loop-holds t c = turn-start _ _ _ _ _ (c .before .pre .1 .0) (c .before .pre .1 .1)
 
 mul-result : (t : ℕ) → lts.Need-mul-result (calls t) (at-depth t) read-content.Post Inv-loop μ-loop
 mul-result t c =
     let turn = c .before in
-    let start = turn .before .before .before .before in
+    let start = turn .before .before .before in
     omega (arith, start .pre .1 .3, turn .loop-test .taken)
 
 add-result : (t : ℕ) → lts.Need-add-result (calls t) (at-depth t) read-content.Post Inv-loop μ-loop
 add-result t c =
     let turn = c .before in
-    let start = turn .before .before .before .before in
+    let start = turn .before .before .before in
     omega (arith, start .pre .1 .3, turn .loop-test .taken)
 
 returns : (t : ℕ) → lts.Need-returns (calls t) (at-depth t) read-content.Post Inv-loop μ-loop
 returns t c =
     let turn = c .before in
     let loop = turn .before in
-    let start = loop .before .before .before in
+    let start = loop .before .before in
     turn-left (loop .loop .inv) (turn .loop-test .taken) (start .pre .1 .2) (c .if1 .taken)
 
 sub-s : (t : ℕ) → lts.Need-sub-s (calls t) (at-depth t) read-content.Post Inv-loop μ-loop
@@ -120,7 +133,7 @@ part-s-start : (t : ℕ) → lts.Need-part-s-start (calls t) (at-depth t) read-c
 part-s-start t c = search needs
 
 part-s-end : (t : ℕ) → lts.Need-part-s-end (calls t) (at-depth t) read-content.Post Inv-loop μ-loop
-part-s-end t c = c .before .before .before .before .before .pre .1 .2
+part-s-end t c = c .before .before .before .before .pre .1 .2
 
 is-short-requires : (t : ℕ) → lts.Need-is-short-requires (calls t) (at-depth t) read-content.Post Inv-loop μ-loop
 is-short-requires t c κs = search needs
@@ -128,20 +141,20 @@ is-short-requires t c κs = search needs
 mul-result-2 : (t : ℕ) → lts.Need-mul-result-2 (calls t) (at-depth t) read-content.Post Inv-loop μ-loop
 mul-result-2 t c =
     let turn = c .before .before .before .before in
-    let start = turn .before .before .before .before in
+    let start = turn .before .before .before in
     omega (arith, start .pre .1 .3, turn .loop-test .taken)
 
 add-result-2 : (t : ℕ) → lts.Need-add-result-2 (calls t) (at-depth t) read-content.Post Inv-loop μ-loop
 add-result-2 t c =
     let turn = c .before .before .before .before in
-    let start = turn .before .before .before .before in
+    let start = turn .before .before .before in
     omega (arith, start .pre .1 .3, turn .loop-test .taken)
 
 returns-2 : (t : ℕ) → lts.Need-returns-2 (calls t) (at-depth t) read-content.Post Inv-loop μ-loop
 returns-2 t c =
     let turn = c .before .before .before .before in
     let loop = turn .before in
-    let start = loop .before .before .before in
+    let start = loop .before .before in
     turn-short (loop .loop .inv) (turn .loop-test .taken) (start .pre .1 .2)
     (c .before .before .before .if1 .left) (c .before .is-short .ensures) (c .if2 .taken)
 
@@ -154,50 +167,28 @@ may-stand-requires t c κs = search needs
 mul-result-3 : (t : ℕ) → lts.Need-mul-result-3 (calls t) (at-depth t) read-content.Post Inv-loop μ-loop
 mul-result-3 t c =
     let turn = c .before .before .before .before .before .before .before in
-    let start = turn .before .before .before .before in
+    let start = turn .before .before .before in
     omega (arith, start .pre .1 .3, turn .loop-test .taken)
 
 add-result-3 : (t : ℕ) → lts.Need-add-result-3 (calls t) (at-depth t) read-content.Post Inv-loop μ-loop
 add-result-3 t c =
     let turn = c .before .before .before .before .before .before .before in
-    let start = turn .before .before .before .before in
+    let start = turn .before .before .before in
     omega (arith, start .pre .1 .3, turn .loop-test .taken)
 
 returns-3 : (t : ℕ) → lts.Need-returns-3 (calls t) (at-depth t) read-content.Post Inv-loop μ-loop
 returns-3 t c =
     let turn = c .before .before .before .before .before .before .before in
     let loop = turn .before in
-    let start = loop .before .before .before in
+    let start = loop .before .before in
     let said = c .before .before .before in
     turn-wrong (loop .loop .inv) (turn .loop-test .taken) (start .pre .1 .2) (said .before .before .before .if1 .left)
     (said .before .is-short .ensures) (said .if2 .left) (c .before .before .record-kind .ensures .0) (c .before .may-stand .ensures) (c .if3 .taken)
 
-mul-result-4 : (t : ℕ) → lts.Need-mul-result-4 (calls t) (at-depth t) read-content.Post Inv-loop μ-loop
-mul-result-4 t c =
-    let turn = c .before .before .before .before .before .before .before .before in
-    let start = turn .before .before .before .before in
-    omega (arith, start .pre .1 .3, turn .loop-test .taken)
-
-add-result-4 : (t : ℕ) → lts.Need-add-result-4 (calls t) (at-depth t) read-content.Post Inv-loop μ-loop
-add-result-4 t c =
-    let turn = c .before .before .before .before .before .before .before .before in
-    let start = turn .before .before .before .before in
-    omega (arith, start .pre .1 .3, turn .loop-test .taken)
-
-returns-4 : (t : ℕ) → lts.Need-returns-4 (calls t) (at-depth t) read-content.Post Inv-loop μ-loop
-returns-4 t c =
-    let turn = c .before .before .before .before .before .before .before .before in
-    let loop = turn .before in
-    let start = loop .before .before .before in
-    let said = c .before .before .before .before in
-    turn-deep (loop .loop .inv) (turn .loop-test .taken) (start .pre .1 .2) (said .before .before .before .if1 .left)
-    (said .before .is-short .ensures) (said .if2 .left)
-    (c .before .before .before .record-kind .ensures .0) (c .before .before .may-stand .ensures) (c .before .if3 .left) (c .if4 .taken)
-
 add-e : (t : ℕ) → lts.Need-add-e (calls t) (at-depth t) read-content.Post Inv-loop μ-loop
 add-e t c =
-    let turn = c .before .before .before .before .before .before .before .before in
-    let start = turn .before .before .before .before in
+    let turn = c .before .before .before .before .before .before .before in
+    let start = turn .before .before .before in
     omega (arith, start .pre .1 .3, turn .loop-test .taken)
 
 record-length-requires : (t : ℕ) → lts.Need-record-length-requires (calls t) (at-depth t) read-content.Post Inv-loop μ-loop
@@ -205,26 +196,58 @@ record-length-requires t c κs = search needs
 
 add-e-2 : (t : ℕ) → lts.Need-add-e-2 (calls t) (at-depth t) read-content.Post Inv-loop μ-loop
 add-e-2 t c =
-    let turn = c .before .before .before .before .before .before .before .before .before in
-    let start = turn .before .before .before .before in
+    let turn = c .before .before .before .before .before .before .before .before in
+    let start = turn .before .before .before in
     omega (arith, start .pre .1 .3, turn .loop-test .taken, c .record-length .ensures .1)
 
 row-after-requires : (t : ℕ) → lts.Need-row-after-requires (calls t) (at-depth t) read-content.Post Inv-loop μ-loop
 row-after-requires t c κs = search needs
 
+mul-result-4 : (t : ℕ) → lts.Need-mul-result-4 (calls t) (at-depth t) read-content.Post Inv-loop μ-loop
+mul-result-4 t c =
+    let row = c .before .before in
+    omega (arith, start-of t row .pre .1 .3, turn-of t row .loop-test .taken)
+
+add-result-4 : (t : ℕ) → lts.Need-add-result-4 (calls t) (at-depth t) read-content.Post Inv-loop μ-loop
+add-result-4 t c =
+    let row = c .before .before in
+    omega (arith, start-of t row .pre .1 .3, turn-of t row .loop-test .taken)
+
+returns-4 : (t : ℕ) → lts.Need-returns-4 (calls t) (at-depth t) read-content.Post Inv-loop μ-loop
+returns-4 t c =
+    bottom t (c .before .before) (c .if5 .taken)
+
 loop-less : (t : ℕ) → lts.Need-loop-less (calls t) (at-depth t) read-content.Post Inv-loop μ-loop
 loop-less t c =
-    let row = c .before in
-    omega (arith, (passed t row) .after-head, (passed t row) .inside)
+    let head = passed t (c .before .before) (c .if5 .left) in
+    omega (arith, head .after-head, head .inside)
 
 loop-again : (t : ℕ) → lts.Need-loop-again (calls t) (at-depth t) read-content.Post Inv-loop μ-loop
-loop-again t c =
-    let row = c .before in
-    turn-leaf (passed t row) (c .if5 .taken)
+loop-again t c = turn-leaf (passed t (c .before .before) (c .if5 .left)) (c .before .if4 .taken)
 
-add-if6 : (t : ℕ) → lts.Need-add-if6 (calls t) (at-depth t) read-content.Post Inv-loop μ-loop
-add-if6 t c =
+row-in-requires : (t : ℕ) → lts.Need-row-in-requires (calls t) (at-depth t) read-content.Post Inv-loop μ-loop
+row-in-requires t c κs =
     let row = c .before in
+    let valid = good-valid _ (turn-of t row .before .loop .inv .good) in
+    (valid .small, start-of t row .pre .1 .4)
+
+mul-result-5 : (t : ℕ) → lts.Need-mul-result-5 (calls t) (at-depth t) read-content.Post Inv-loop μ-loop
+mul-result-5 t c =
+    let row = c .before .before .before in
+    omega (arith, start-of t row .pre .1 .3, turn-of t row .loop-test .taken)
+
+add-result-5 : (t : ℕ) → lts.Need-add-result-5 (calls t) (at-depth t) read-content.Post Inv-loop μ-loop
+add-result-5 t c =
+    let row = c .before .before .before in
+    omega (arith, start-of t row .pre .1 .3, turn-of t row .loop-test .taken)
+
+returns-5 : (t : ℕ) → lts.Need-returns-5 (calls t) (at-depth t) read-content.Post Inv-loop μ-loop
+returns-5 t c =
+    bottom t (c .before .before .before) (c .if6 .taken)
+
+add-if7 : (t : ℕ) → lts.Need-add-if7 (calls t) (at-depth t) read-content.Post Inv-loop μ-loop
+add-if7 t c =
+    let row = c .before .before .before in
     omega (arith, start-of t row .pre .1 .3, turn-of t row .loop-test .taken)
 
 row-at-requires : (t : ℕ) → lts.Need-row-at-requires (calls t) (at-depth t) read-content.Post Inv-loop μ-loop
@@ -233,47 +256,45 @@ row-at-requires t c κs = search needs
 may-end-requires : (t : ℕ) → lts.Need-may-end-requires (calls t) (at-depth t) read-content.Post Inv-loop μ-loop
 may-end-requires t c κs = search needs
 
-mul-result-5 : (t : ℕ) → lts.Need-mul-result-5 (calls t) (at-depth t) read-content.Post Inv-loop μ-loop
-mul-result-5 t c =
-    let row = c .before .before .before .before .before in
-    omega (arith, (passed t row) .inside, start-of t row .pre .1 .3)
+mul-result-6 : (t : ℕ) → lts.Need-mul-result-6 (calls t) (at-depth t) read-content.Post Inv-loop μ-loop
+mul-result-6 t c =
+    let row = c .before .before .before .before .before .before .before in
+    let head = passed t row (c .before .before .before .before .if6 .left) in
+    omega (arith, head .inside, start-of t row .pre .1 .3)
 
-add-result-5 : (t : ℕ) → lts.Need-add-result-5 (calls t) (at-depth t) read-content.Post Inv-loop μ-loop
-add-result-5 t c =
-    let row = c .before .before .before .before .before in
-    omega (arith, (passed t row) .inside, start-of t row .pre .1 .3)
+add-result-6 : (t : ℕ) → lts.Need-add-result-6 (calls t) (at-depth t) read-content.Post Inv-loop μ-loop
+add-result-6 t c =
+    let row = c .before .before .before .before .before .before .before in
+    let head = passed t row (c .before .before .before .before .if6 .left) in
+    omega (arith, head .inside, start-of t row .pre .1 .3)
 
-returns-5 : (t : ℕ) → lts.Need-returns-5 (calls t) (at-depth t) read-content.Post Inv-loop μ-loop
-returns-5 t c =
-    let row = c .before .before .before .before .before in
+returns-6 : (t : ℕ) → lts.Need-returns-6 (calls t) (at-depth t) read-content.Post Inv-loop μ-loop
+returns-6 t c =
+    let row = c .before .before .before .before .before .before .before in
     let start = start-of t row in
-    turn-hollow (passed t row) (c .before .before .before .before .if5 .left) (c .before .before .before .if6 .taken)
-    (row-read (start .args .t .now) _ _ (start .pre .1 .4) (c .before .before .row-at .ensures)) (c .before .may-end .ensures) (c .if7 .taken)
+    let one = c .before .before .before in
+    turn-hollow (passed t row (one .before .if6 .left)) (one .before .before .before .if4 .left) (one .if7 .taken)
+    (row-read (start .args .t .now) _ _ (start .pre .1 .4) (c .before .before .row-at .ensures)) (c .before .may-end .ensures) (c .if8 .taken)
 
 loop-less-2 : (t : ℕ) → lts.Need-loop-less-2 (calls t) (at-depth t) read-content.Post Inv-loop μ-loop
 loop-less-2 t c =
-    let row = c .before .before .before .before .before in
-    omega (arith, (passed t row) .after-head, (passed t row) .inside)
+    let head = passed t (c .before .before .before .before .before .before .before) (c .before .before .before .before .if6 .left) in
+    omega (arith, head .after-head, head .inside)
 
 loop-again-2 : (t : ℕ) → lts.Need-loop-again-2 (calls t) (at-depth t) read-content.Post Inv-loop μ-loop
 loop-again-2 t c =
-    let row = c .before .before .before .before .before in
+    let row = c .before .before .before .before .before .before .before in
     let start = start-of t row in
-    turn-empty (passed t row) (c .before .before .before .before .if5 .left) (c .before .before .before .if6 .taken)
-    (row-read (start .args .t .now) _ _ (start .pre .1 .4) (c .before .before .row-at .ensures)) (c .before .may-end .ensures) (c .if7 .left)
-
-row-in-requires : (t : ℕ) → lts.Need-row-in-requires (calls t) (at-depth t) read-content.Post Inv-loop μ-loop
-row-in-requires t c κs =
-    let row = c .before .before in
-    let valid = good-valid _ (turn-of t row .before .loop .inv .good) in
-    (valid .small, start-of t row .pre .1 .4)
+    let one = c .before .before .before in
+    turn-empty (passed t row (one .before .if6 .left)) (one .before .before .before .if4 .left) (one .if7 .taken)
+    (row-read (start .args .t .now) _ _ (start .pre .1 .4) (c .before .before .row-at .ensures)) (c .before .may-end .ensures) (c .if8 .left)
 
 may-end-requires-2 : (t : ℕ) → lts.Need-may-end-requires-2 (calls t) (at-depth t) read-content.Post Inv-loop μ-loop
 may-end-requires-2 t c κs = search needs
 
 add-i : (t : ℕ) → lts.Need-add-i (calls t) (at-depth t) read-content.Post Inv-loop μ-loop
 add-i t c =
-    let row = c .before .before .before .before .before .before in
+    let row = c .before .before .before .before .before .before .before in
     omega (arith, start-of t row .pre .1 .3, turn-of t row .loop-test .taken)
 
 sub-left : (t : ℕ) → lts.Need-sub-left (calls t) (at-depth t) read-content.Post Inv-loop μ-loop
@@ -281,19 +302,19 @@ sub-left t c = search needs
 
 loop-less-3 : (t : ℕ) → lts.Need-loop-less-3 (calls t) (at-depth t) read-content.Post Inv-loop μ-loop
 loop-less-3 t c =
-    let row = c .before .before .before .before .before .before in
-    omega (arith, (passed t row) .after-head, (passed t row) .inside)
+    let head = passed t (c .before .before .before .before .before .before .before) (c .before .before .before .before .if6 .left) in
+    omega (arith, head .after-head, head .inside)
 
 loop-again-3 : (t : ℕ) → lts.Need-loop-again-3 (calls t) (at-depth t) read-content.Post Inv-loop μ-loop
 loop-again-3 t c =
-    let row = c .before .before .before .before .before .before in
-    let held = c .before .before .before in
-    turn-last (passed t row) (held .before .before .if5 .left) (held .before .if6 .left) (held .row-in .ensures)
-    (c .before .before .if8 .taken) (c .before .may-end2 .ensures) (c .if9 .taken)
+    let more = c .before .before .before in
+    let held = more .before .before in
+    turn-last (passed t (held .before .before) (more .before .if6 .left)) (held .before .if4 .left) (more .if7 .left) (held .row-in .ensures)
+    (c .before .before .if9 .taken) (c .before .may-end2 .ensures) (c .if10 .taken)
 
 add-read-content : (t : ℕ) → lts.Need-add-read-content (calls t) (at-depth t) read-content.Post Inv-loop μ-loop
 add-read-content t c =
-    let row = c .before .before .before .before in
+    let row = c .before .before .before .before .before in
     omega (arith, start-of t row .pre .1 .3, turn-of t row .loop-test .taken)
 
 sub-read-content : (t : ℕ) → lts.Need-sub-read-content (calls t) (at-depth t) read-content.Post Inv-loop μ-loop
@@ -301,64 +322,66 @@ sub-read-content t c = search needs
 
 read-content-requires : (t : ℕ) → lts.Need-read-content-requires (calls t) (at-depth t) read-content.Post Inv-loop μ-loop
 read-content-requires t c κs =
-    let row = c .before .before .before .before in
+    let more = c .before in
+    let held = more .before .before in
+    let row = held .before .before in
     let start = start-of t row in
     let loop = turn-of t row .before in
-    let held = c .before in
-    let good = turn-good (passed t row) (held .before .before .if5 .left) (held .before .if6 .left) (held .row-in .ensures) in (
-      omega (arith, start .pre .0, loop .loop .inv .under, row .before .before .if4 .left),
+    let head = passed t row (more .before .if6 .left) in
+    let good = turn-good head (held .before .if4 .left) (more .if7 .left) (held .row-in .ensures) in (
+      omega (arith, start .pre .0, loop .loop .inv .under, more .before .if6 .left),
       (
         good,
-        (passed t row) .after-head,
-        omega (arith, (passed t row) .inside, start .pre .1 .2),
-        omega (arith, (passed t row) .inside, start .pre .1 .3),
+        head .after-head,
+        omega (arith, head .inside, start .pre .1 .2),
+        omega (arith, head .inside, start .pre .1 .3),
         start .pre .1 .4,
       ),
     )
 
-returns-6 : (t : ℕ) → lts.Need-returns-6 (calls t) (at-depth t) read-content.Post Inv-loop μ-loop
-returns-6 t c =
-    let row = c .before .before .before .before .before .before in
-    let held = c .before .before .before in
-    turn-fault (passed t row) (held .before .before .if5 .left) (held .before .if6 .left) (held .row-in .ensures)
-    (c .before .read-content .ensures) (c .if10 .taken)
+returns-7 : (t : ℕ) → lts.Need-returns-7 (calls t) (at-depth t) read-content.Post Inv-loop μ-loop
+returns-7 t c =
+    let more = c .before .before .before in
+    let held = more .before .before in
+    turn-fault (passed t (held .before .before) (more .before .if6 .left)) (held .before .if4 .left) (more .if7 .left) (held .row-in .ensures)
+    (c .before .read-content .ensures) (c .if11 .taken)
 
 loop-less-4 : (t : ℕ) → lts.Need-loop-less-4 (calls t) (at-depth t) read-content.Post Inv-loop μ-loop
 loop-less-4 t c =
-    let row = c .before .before .before .before .before .before in
-    omega (arith, (passed t row) .after-head, (passed t row) .inside)
+    let head = passed t (c .before .before .before .before .before .before .before) (c .before .before .before .before .if6 .left) in
+    omega (arith, head .after-head, head .inside)
 
 loop-again-4 : (t : ℕ) → lts.Need-loop-again-4 (calls t) (at-depth t) read-content.Post Inv-loop μ-loop
 loop-again-4 t c =
-    let row = c .before .before .before .before .before .before in
-    let held = c .before .before .before in
-    turn-inner (passed t row) (held .before .before .if5 .left) (held .before .if6 .left) (held .row-in .ensures)
-    (c .before .read-content .ensures) (c .if10 .left)
+    let more = c .before .before .before in
+    let held = more .before .before in
+    turn-inner (passed t (held .before .before) (more .before .if6 .left)) (held .before .if4 .left) (more .if7 .left) (held .row-in .ensures)
+    (c .before .read-content .ensures) (c .if11 .left)
 
 may-end-requires-3 : (t : ℕ) → lts.Need-may-end-requires-3 (calls t) (at-depth t) read-content.Post Inv-loop μ-loop
 may-end-requires-3 t c κs = search needs
 
-returns-7 : (t : ℕ) → lts.Need-returns-7 (calls t) (at-depth t) read-content.Post Inv-loop μ-loop
-returns-7 t c =
-    let loop = c .before .before .before in
-    turn-end (loop .loop .inv) (c .before .before .loop-test .left) (c .before .may-end3 .ensures) (c .if11 .taken)
-
-mul-result-6 : (t : ℕ) → lts.Need-mul-result-6 (calls t) (at-depth t) read-content.Post Inv-loop μ-loop
-mul-result-6 t c =
-    let loop = c .before .before .before in
-    let start = loop .before .before .before in
-    omega (arith, loop .loop .inv .inside, start .pre .1 .3)
-
-add-result-6 : (t : ℕ) → lts.Need-add-result-6 (calls t) (at-depth t) read-content.Post Inv-loop μ-loop
-add-result-6 t c =
-    let loop = c .before .before .before in
-    let start = loop .before .before .before in
-    omega (arith, loop .loop .inv .inside, start .pre .1 .3)
-
 returns-8 : (t : ℕ) → lts.Need-returns-8 (calls t) (at-depth t) read-content.Post Inv-loop μ-loop
 returns-8 t c =
     let loop = c .before .before .before in
-    turn-cut (loop .loop .inv) (c .before .before .loop-test .left) (c .before .may-end3 .ensures) (c .if11 .left)
+    turn-end (loop .loop .inv) (c .before .before .loop-test .left) (c .before .may-end3 .ensures) (c .if12 .taken)
+
+mul-result-7 : (t : ℕ) → lts.Need-mul-result-7 (calls t) (at-depth t) read-content.Post Inv-loop μ-loop
+mul-result-7 t c =
+    let loop = c .before .before .before in
+    let start = loop .before .before in
+    omega (arith, loop .loop .inv .inside, start .pre .1 .3)
+
+add-result-7 : (t : ℕ) → lts.Need-add-result-7 (calls t) (at-depth t) read-content.Post Inv-loop μ-loop
+add-result-7 t c =
+    let loop = c .before .before .before in
+    let start = loop .before .before in
+    omega (arith, loop .loop .inv .inside, start .pre .1 .3)
+
+returns-9 : (t : ℕ) → lts.Need-returns-9 (calls t) (at-depth t) read-content.Post Inv-loop μ-loop
+returns-9 t c =
+    let loop = c .before .before .before in
+    turn-cut (loop .loop .inv) (c .before .before .loop-test .left) (c .before .may-end3 .ensures) (c .if12 .left)
 
 pub +read-content-spec : {M : Type 1} → statement M
 +read-content-spec = close μ-read-content λ t. lts.spec (calls t)
@@ -382,24 +405,27 @@ pub +read-content-spec : {M : Type 1} → statement M
     (mul-result-3 t)
     (add-result-3 t)
     (returns-3 t)
-    (mul-result-4 t)
-    (add-result-4 t)
-    (returns-4 t)
     (add-e t)
     (record-length-requires t)
     (add-e-2 t)
     (row-after-requires t)
+    (mul-result-4 t)
+    (add-result-4 t)
+    (returns-4 t)
     (loop-less t)
     (loop-again t)
-    (add-if6 t)
-    (row-at-requires t)
-    (may-end-requires t)
+    (row-in-requires t)
     (mul-result-5 t)
     (add-result-5 t)
     (returns-5 t)
+    (add-if7 t)
+    (row-at-requires t)
+    (may-end-requires t)
+    (mul-result-6 t)
+    (add-result-6 t)
+    (returns-6 t)
     (loop-less-2 t)
     (loop-again-2 t)
-    (row-in-requires t)
     (may-end-requires-2 t)
     (add-i t)
     (sub-left t)
@@ -408,11 +434,11 @@ pub +read-content-spec : {M : Type 1} → statement M
     (add-read-content t)
     (sub-read-content t)
     (read-content-requires t)
-    (returns-6 t)
+    (returns-7 t)
     (loop-less-4 t)
     (loop-again-4 t)
     (may-end-requires-3 t)
-    (returns-7 t)
-    (mul-result-6 t)
-    (add-result-6 t)
     (returns-8 t)
+    (mul-result-7 t)
+    (add-result-7 t)
+    (returns-9 t)

@@ -7,17 +7,11 @@ use Rattle.reading.proofs.read_both.Tie as tie
 table-requires : tie.Need-table-requires
 table-requires c κs = search needs
 
-slice-aggregate-read-one : tie.Need-slice-aggregate-read-one
-slice-aggregate-read-one c = search needs
-
 read-one-requires : tie.Need-read-one-requires
 read-one-requires c κs = search needs
 
 enum-told : tie.Need-enum-told
 enum-told c = search needs
-
-slice-aggregate-read-one-2 : tie.Need-slice-aggregate-read-one-2
-slice-aggregate-read-one-2 c = search needs
 
 read-one-requires-2 : tie.Need-read-one-requires-2
 read-one-requires-2 c κs = search needs
@@ -42,10 +36,8 @@ read-both-spec =
     tie.close
     (tie.spec
     table-requires
-    slice-aggregate-read-one
     read-one-requires
     enum-told
-    slice-aggregate-read-one-2
     read-one-requires-2
     enum-told-2
     returns

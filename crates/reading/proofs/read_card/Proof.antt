@@ -7,9 +7,6 @@ use Rattle.reading.proofs.read_card.Tie as tie
 table-requires : tie.Need-table-requires
 table-requires c κs = search needs
 
-slice-aggregate-read-one : tie.Need-slice-aggregate-read-one
-slice-aggregate-read-one c = search needs
-
 read-one-requires : tie.Need-read-one-requires
 read-one-requires c κs = search needs
 
@@ -18,4 +15,4 @@ returns c = read-card-is _ (c .before .before .before .before .args .card .now) 
 
 pub read-card-spec : {M : Type 1} → statement M
 read-card-spec =
-    tie.close (tie.spec table-requires slice-aggregate-read-one read-one-requires returns)
+    tie.close (tie.spec table-requires read-one-requires returns)

@@ -16,7 +16,7 @@ add-e c = search needs
 
 read-content-requires : tie.Need-read-content-requires
 read-content-requires c κs =
-    let start = c .before .before .before .before in
+    let start = c .before .before .before in
     let small = c .before .record-length .ensures .1 in (
       good-one _ (start .pre .1),
       omega arith,
@@ -31,7 +31,7 @@ verdict-requires c κs = search needs
 returns : tie.Need-returns
 returns c =
     let joined = c .before .before in
-    let start = joined .before .before .before .before in
+    let start = joined .before .before .before in
     let s = start .args .s .now in
     let n = joined .before .record-length .ensures .0 in
     c .verdict .ensures ∙ c .before .read-content .ensures

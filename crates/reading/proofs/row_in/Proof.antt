@@ -20,7 +20,7 @@ row-at-requires c κs = search needs
 
 returns-3 : tie.Need-returns-3
 returns-3 c =
-    let start = c .before .before .before .before in
+    let start = c .before .before .before in
     row-read (start .args .t .now) _ _ (start .pre .1) (c .row-at .ensures) ∙ sym (in-one _ _ (omega arith))
 
 pub row-in-spec : {M : Type 1} → statement M

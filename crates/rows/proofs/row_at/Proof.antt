@@ -1,24 +1,21 @@
--- `rows::row_at` meets its contract: past a list's end stands 0. Assumes nothing.
-use mathlib.Core.Path.{sym}
-use native.Mathlib.Omega.{arith}
-use lib.ListN.{List·getD-eq-default}
+-- `rows::row_at` meets its contract. Assumes nothing.
+use mathlib.Core.Path.{refl}
 use borrow.Author.Needs.{needs}
+use borrow.Author.Tests.{lt-ltb, le-ltb}
 use Rattle.rows.proofs.row_at.Statement.{statement}
 use Rattle.rows.proofs.row_at.Tie as tie
 
 mul-result : tie.Need-mul-result
 mul-result c = search needs
 
-shared-slice-read-result : tie.Need-shared-slice-read-result
-shared-slice-read-result c = search needs
+element-copy-out-result : tie.Need-element-copy-out-result
+element-copy-out-result c = search needs
 
 returns : tie.Need-returns
-returns c = search needs
+returns c = rw (lt-ltb (c .before .before .args .k) 135 (c .before .if1 .taken)) refl
 
 returns-2 : tie.Need-returns-2
-returns-2 c =
-    let a = c .before .args in
-    sym (List·getD-eq-default (a .t .now) 0 {n = a .k} (omega arith))
+returns-2 c = rw (le-ltb (c .before .args .k) 135 (c .if1 .left))
 
 pub row-at-spec : {M : Type 1} → statement M
-row-at-spec = tie.close (tie.spec mul-result shared-slice-read-result returns returns-2)
+row-at-spec = tie.close (tie.spec mul-result element-copy-out-result returns returns-2)

@@ -167,13 +167,7 @@ module _ {w : Verdict} {card : Bytes} {to deep i row left : ℕ} (t : Turn w car
               (record-wrong left i (placeOf (row % 256)) (between card i to) (sym f ∙ y)
               (sym (q ∙ ap (stands (placeOf (row % 256))) g) ∙ not-true d x))
 
-          pub turn-deep : not d ≡ false → left ≡ 0 → said (8 * i + 6) ≡ w
-          turn-deep x o =
-              refused (8 * i + 6) (TooDeep i) (said-deep i)
-              (record-deep left i (placeOf (row % 256)) (between card i to) (sym f ∙ y)
-              (sym (q ∙ ap (stands (placeOf (row % 256))) g) ∙ not-false d x) o)
-
--- a record whose own tests are passed: its kind, where it ends and the row after it
+-- a record whose kind may stand there: its kind, where it ends and the row after it
 pub record Head (w : Verdict) (card : Bytes) (to deep i row left k e after : ℕ) : Type 0 where
   pub turn : Turn w card to deep i row left
   pub more : i < to
@@ -182,7 +176,6 @@ pub record Head (w : Verdict) (card : Bytes) (to deep i row left k e after : ℕ
   pub long : short (between card i to) ≡ false
   pub kind : k ≡ kindOf (between card i to)
   pub standing : stands (placeOf (row % 256)) k ≡ true
-  pub deeper : left ≡ 0 → ⊥
   pub ends : e ≡ i + 4 + lengthOf (between card i to)
   pub then : after ≡ rowAfter row
   pub after-head : i + 6 ≤ e
@@ -190,9 +183,9 @@ pub record Head (w : Verdict) (card : Bytes) (to deep i row left k e after : ℕ
 
 pub head : {w : Verdict} {card : Bytes} {to deep i row left k n after : ℕ} {b d : Bool} → Turn w card to deep i row left → i < to → to ≤ length card
     → (row % 256 ≡ 0 → ⊥) → b ≡ short (between card i to) → b ≡ false → k ≡ kindOf (between card i to) → d ≡ stands (placeOf (row % 256)) k
-    → not d ≡ false → (left ≡ 0 → ⊥) → n ≡ lengthOf (between card i to) → after ≡ rowAfter row
+    → not d ≡ false → n ≡ lengthOf (between card i to) → after ≡ rowAfter row
     → Head w card to deep i row left k (i + 4 + n) after
-head {card = card} {to = to} {i = i} {d = d} t l h z f y g q x o m a =
+head {card = card} {to = to} {i = i} {d = d} t l h z f y g q x m a =
     let s = long-enough (between card i to) (sym f ∙ y) in
     let p = part-length card i to h in
     let two = s .two in
@@ -205,7 +198,6 @@ head {card = card} {to = to} {i = i} {d = d} t l h z f y g q x o m a =
       long = sym f ∙ y;
       kind = g;
       standing = sym q ∙ not-false d x;
-      deeper = o;
       ends = ap (λ (j : ℕ). i + 4 + j) m;
       then = a;
       after-head = omega arith;
@@ -233,12 +225,6 @@ module _ {w : Verdict} {card : Bytes} {to deep i row left k e after : ℕ} (f : 
       let p : Within card (i + (4 + lengthOf s)) (restOf s) = within-drop card i s (within-all card i (to - i) s refl) (4 + lengthOf s) in
       sym (within-own card (i + (4 + lengthOf s)) (restOf s) p) ∙ ap₂ (λ (n j : ℕ). take n (drop j card)) m o
 
-  record-reads : readsRecord left (placeOf (row % 256)) i (between card i to)
-      ≡ reads (left - 1) (contentAt (placeOf (row % 256)) k) (i + 6) (between card (i + 6) e)
-  record-reads =
-      record-inside left i (placeOf (row % 256)) (between card i to) (f .long) (ap (stands (placeOf (row % 256))) (sym (f .kind)) ∙ f .standing) (f .deeper)
-      ∙ ap₂ (λ (x : ℕ) (c : Bytes). reads (left - 1) (contentAt (placeOf (row % 256)) x) (i + 6) c) (sym (f .kind)) content-part
-
   then-rest : w ≡ andThen (readsRecord left (placeOf (row % 256)) i (between card i to)) (reads left (rowContent (rowAfter row)) e (between card e to))
   then-rest =
       at-record (f .turn) (f .more) (f .whole) (f .some)
@@ -257,70 +243,87 @@ module _ {w : Verdict} {card : Bytes} {to deep i row left k e after : ℕ} (f : 
             ∙ ap (λ (r : ℕ). reads left (rowContent r) e (between card e to)) (sym (f .then));
       }
 
-  -- a leaf
-  pub turn-leaf : row % 256 < 4 → Turn w card to deep e after left
-  turn-leaf g =
-      on (record-reads ∙ ap (λ (c : Content). reads (left - 1) c (i + 6) (between card (i + 6) e)) (leaf-bytes (row % 256) k (f .some) g (f .standing))
-      ∙ reads-done (left - 1) bytes (i + 6) (between card (i + 6) e) refl)
+  stands-there : stands (placeOf (row % 256)) (kindOf (between card i to)) ≡ true
+  stands-there = ap (stands (placeOf (row % 256))) (sym (f .kind)) ∙ f .standing
 
-  -- a record that holds nothing
-  module _ (g : 4 ≤ row % 256) where
-    module _ (n : e ≡ i + 6) {r : ℕ} (x : r ≡ num (map codeOf (rowOf k))) {b : Bool} (y : b ≡ rowEnds r) where
-      hollow : readsRecord left (placeOf (row % 256)) i (between card i to) ≡ cond b Sound (Refused (ShortRecord e))
-      hollow =
-          let o : e - (i + 6) ≡ 0 = omega arith in
-          record-reads ∙ ap (λ (m : ℕ). reads (left - 1) (contentAt (placeOf (row % 256)) k) (i + 6) (take m (drop (i + 6) card))) o
-          ∙ inner-empty (row % 256) k (good-valid row (f .turn .good)) (omega arith) (f .standing) (left - 1) (i + 6)
-          ∙ ap₂ (λ (q : Bool) (m : ℕ). cond q Sound (Refused (ShortRecord m))) (sym (y ∙ ap rowEnds x)) (sym n)
+  -- too deep
+  pub turn-deep : left ≡ 0 → said (8 * i + 6) ≡ w
+  turn-deep o =
+      refused (f .turn) (f .more) (f .whole) (f .some) (8 * i + 6) (TooDeep i) (said-deep i)
+      (record-deep left i (placeOf (row % 256)) (between card i to) (f .long) stands-there o)
 
-      pub turn-empty : not b ≡ false → Turn w card to deep e after left
-      turn-empty v = on (hollow ∙ ap (λ (q : Bool). cond q Sound (Refused (ShortRecord e))) (not-false b v))
+  -- not too deep
+  module _ (deeper : left ≡ 0 → ⊥) where
+    record-reads : readsRecord left (placeOf (row % 256)) i (between card i to)
+        ≡ reads (left - 1) (contentAt (placeOf (row % 256)) k) (i + 6) (between card (i + 6) e)
+    record-reads =
+        record-inside left i (placeOf (row % 256)) (between card i to) (f .long) stands-there deeper
+        ∙ ap₂ (λ (x : ℕ) (c : Bytes). reads (left - 1) (contentAt (placeOf (row % 256)) x) (i + 6) c) (sym (f .kind)) content-part
 
-      pub turn-hollow : not b ≡ true → said (8 * e + 4) ≡ w
-      turn-hollow v =
-          refused (f .turn) (f .more) (f .whole) (f .some) (8 * e + 4) (ShortRecord e) (said-short e)
-          (hollow ∙ ap (λ (q : Bool). cond q Sound (Refused (ShortRecord e))) (not-true b v))
+    -- a leaf
+    pub turn-leaf : row % 256 < 4 → Turn w card to deep e after left
+    turn-leaf g =
+        on (record-reads ∙ ap (λ (c : Content). reads (left - 1) c (i + 6) (between card (i + 6) e)) (leaf-bytes (row % 256) k (f .some) g (f .standing))
+        ∙ reads-done (left - 1) bytes (i + 6) (between card (i + 6) e) refl)
 
-    -- a record that holds others
-    module _ (n : e ≡ i + 6 → ⊥) {inner : ℕ} (x : inner ≡ rowIn (row % 256) k) where
-      pub turn-good : Good inner
-      turn-good = rw x (inner-good (row % 256) k (good-valid row (f .turn .good)))
+    -- a record that holds nothing
+    module _ (g : 4 ≤ row % 256) where
+      module _ (n : e ≡ i + 6) {r : ℕ} (x : r ≡ num (map codeOf (rowOf k))) {b : Bool} (y : b ≡ rowEnds r) where
+        hollow : readsRecord left (placeOf (row % 256)) i (between card i to) ≡ cond b Sound (Refused (ShortRecord e))
+        hollow =
+            let o : e - (i + 6) ≡ 0 = omega arith in
+            record-reads ∙ ap (λ (m : ℕ). reads (left - 1) (contentAt (placeOf (row % 256)) k) (i + 6) (take m (drop (i + 6) card))) o
+            ∙ inner-empty (row % 256) k (good-valid row (f .turn .good)) (omega arith) (f .standing) (left - 1) (i + 6)
+            ∙ ap₂ (λ (q : Bool) (m : ℕ). cond q Sound (Refused (ShortRecord m))) (sym (y ∙ ap rowEnds x)) (sym n)
 
-      inner-is : readsRecord left (placeOf (row % 256)) i (between card i to) ≡ reads (left - 1) (rowContent inner) (i + 6) (between card (i + 6) e)
-      inner-is =
-          let m = part-length card (i + 6) e (let u = f .inside in let v = f .whole in omega arith) in
-          let u = less (i + 6) e (f .after-head) (λ z. n (sym z)) in
-          record-reads
-          ∙ sym (ap (λ (r : ℕ). reads (left - 1) (rowContent r) (i + 6) (between card (i + 6) e)) x
-          ∙ inner-reads (row % 256) k (good-valid row (f .turn .good)) (omega arith) (f .standing) (left - 1) (i + 6) (between card (i + 6) e) (omega arith))
+        pub turn-empty : not b ≡ false → Turn w card to deep e after left
+        turn-empty v = on (hollow ∙ ap (λ (q : Bool). cond q Sound (Refused (ShortRecord e))) (not-false b v))
 
-      -- the last of its parent is read on with
-      pub turn-last : e ≡ to → {b : Bool} → b ≡ rowEnds after → b ≡ true → Turn w card to deep (i + 6) inner (left - 1)
-      turn-last o {b} y v =
-          let u = f .turn .under in
-          record {
-            inside = (let q = f .after-head in omega arith);
-            good = turn-good;
-            under = omega arith;
-            same =
-                then-rest
-                ∙ ap (λ (q : Verdict). andThen (readsRecord left (placeOf (row % 256)) i (between card i to)) q) (last-rest o b y v)
-                ∙ sound-then (readsRecord left (placeOf (row % 256)) i (between card i to))
-                ∙ inner-is ∙ ap (λ (m : ℕ). reads (left - 1) (rowContent inner) (i + 6) (between card (i + 6) m)) o;
-          }
-        where
-          last-rest : e ≡ to → (b : Bool) → b ≡ rowEnds after → b ≡ true → reads left (rowContent (rowAfter row)) e (between card e to) ≡ Sound
-          last-rest o b y v =
-              let q : to - e ≡ 0 = omega arith in
-              ap (λ (m : ℕ). reads left (rowContent (rowAfter row)) e (take m (drop e card))) q
-              ∙ row-end left e (rowAfter row) (good-after row (f .turn .good))
-              ∙ ap (λ (c : Bool). cond c Sound (Refused (ShortRecord e))) (ap rowEnds (sym (f .then)) ∙ sym y ∙ v)
+        pub turn-hollow : not b ≡ true → said (8 * e + 4) ≡ w
+        turn-hollow v =
+            refused (f .turn) (f .more) (f .whole) (f .some) (8 * e + 4) (ShortRecord e) (said-short e)
+            (hollow ∙ ap (λ (q : Bool). cond q Sound (Refused (ShortRecord e))) (not-true b v))
 
-      -- any other is entered
-      module _ {v : ℕ} (y : said v ≡ reads (left - 1) (rowContent inner) (i + 6) (between card (i + 6) e)) where
-        pub turn-fault : (v ≡ 0 → ⊥) → said v ≡ w
-        turn-fault z =
-            refused (f .turn) (f .more) (f .whole) (f .some) v (faultOf (v % 8) (v / 8)) (said-fault v z) (inner-is ∙ sym y ∙ said-fault v z)
+      -- a record that holds others
+      module _ (n : e ≡ i + 6 → ⊥) {inner : ℕ} (x : inner ≡ rowIn (row % 256) k) where
+        pub turn-good : Good inner
+        turn-good = rw x (inner-good (row % 256) k (good-valid row (f .turn .good)))
 
-        pub turn-inner : v ≡ 0 → Turn w card to deep e after left
-        turn-inner z = on (inner-is ∙ sym y ∙ said-none v z)
+        inner-is : readsRecord left (placeOf (row % 256)) i (between card i to) ≡ reads (left - 1) (rowContent inner) (i + 6) (between card (i + 6) e)
+        inner-is =
+            let m = part-length card (i + 6) e (let u = f .inside in let v = f .whole in omega arith) in
+            let u = less (i + 6) e (f .after-head) (λ z. n (sym z)) in
+            record-reads
+            ∙ sym (ap (λ (r : ℕ). reads (left - 1) (rowContent r) (i + 6) (between card (i + 6) e)) x
+            ∙ inner-reads (row % 256) k (good-valid row (f .turn .good)) (omega arith) (f .standing) (left - 1) (i + 6) (between card (i + 6) e) (omega arith))
+
+        -- the last of its parent is read on with
+        pub turn-last : e ≡ to → {b : Bool} → b ≡ rowEnds after → b ≡ true → Turn w card to deep (i + 6) inner (left - 1)
+        turn-last o {b} y v =
+            let u = f .turn .under in
+            record {
+              inside = (let q = f .after-head in omega arith);
+              good = turn-good;
+              under = omega arith;
+              same =
+                  then-rest
+                  ∙ ap (λ (q : Verdict). andThen (readsRecord left (placeOf (row % 256)) i (between card i to)) q) (last-rest o b y v)
+                  ∙ sound-then (readsRecord left (placeOf (row % 256)) i (between card i to))
+                  ∙ inner-is ∙ ap (λ (m : ℕ). reads (left - 1) (rowContent inner) (i + 6) (between card (i + 6) m)) o;
+            }
+          where
+            last-rest : e ≡ to → (b : Bool) → b ≡ rowEnds after → b ≡ true → reads left (rowContent (rowAfter row)) e (between card e to) ≡ Sound
+            last-rest o b y v =
+                let q : to - e ≡ 0 = omega arith in
+                ap (λ (m : ℕ). reads left (rowContent (rowAfter row)) e (take m (drop e card))) q
+                ∙ row-end left e (rowAfter row) (good-after row (f .turn .good))
+                ∙ ap (λ (c : Bool). cond c Sound (Refused (ShortRecord e))) (ap rowEnds (sym (f .then)) ∙ sym y ∙ v)
+
+        -- any other is entered
+        module _ {v : ℕ} (y : said v ≡ reads (left - 1) (rowContent inner) (i + 6) (between card (i + 6) e)) where
+          pub turn-fault : (v ≡ 0 → ⊥) → said v ≡ w
+          turn-fault z =
+              refused (f .turn) (f .more) (f .whole) (f .some) v (faultOf (v % 8) (v / 8)) (said-fault v z) (inner-is ∙ sym y ∙ said-fault v z)
+
+          pub turn-inner : v ≡ 0 → Turn w card to deep e after left
+          turn-inner z = on (inner-is ∙ sym y ∙ said-none v z)

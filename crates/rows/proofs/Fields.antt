@@ -1,25 +1,20 @@
 -- Each kind is allowed at each field exactly where document 01 allows it: `may_stand`, asked with the byte of a row that reading comes to at the
 -- field, says what the definition's row says, and so it does in a List; where the row ends the byte is 0. Assumes nothing.
 use mathlib.Core.Path.{_≡_, refl, ap, _∙_}
-use mathlib.Core.Bool.{Bool, true, false, cond}
+use mathlib.Core.Bool.{true, false}
 use mathlib.Core.List.{List, [], _∷_, map}
-use Prim.Native.Nat.{ℕ, zero, suc, _-_, _/_, _%_, _<_, _≤_}
+use Prim.Native.Nat.{ℕ, zero, suc, _-_, _<_, _≤_}
 use native.Mathlib.Nat.{not-suc-le-zero, le-of-suc-le-suc}
 use native.Mathlib.Omega.{arith}
 use native.Mathlib.Decide.{decLe}
 use lib.ListN.{length, getD}
-use lib.Dec.{leb}
 use borrow.Author.Tests.{le-leb, lt-leb}
 use Rattle.wire.specs.Numbers.{num}
 use Rattle.records.specs.Kinds.{Place, kinds, name, seq, option, one, stands, rowOf}
 use Rattle.rows.specs.Codes.{placeOf, codeOf, table}
+use Rattle.rows.specs.Fields.{byteOf, inside, insideOf}
 use Rattle.rows.proofs.Codes.{AllCoded, row-coded, code-first, code-rest, place-seq, place-option, oneAt, place-is-one}
 use Rattle.rows.proofs.Tables.{table-at}
-
--- the byte of a row that is the lowest after i records
-abbrev pub byteOf : ℕ → ℕ → ℕ
-byteOf zero row = row % 256
-byteOf (suc i) row = byteOf i (row / 256)
 
 byte-none : (i : ℕ) → byteOf i 0 ≡ 0
 byte-none zero = refl
@@ -47,16 +42,7 @@ byte-past (p ∷ ps) a (suc i) h = rw (code-rest p (num (map codeOf ps)) (a .0))
 pub allowed : (j i k : ℕ) → stands (placeOf (byteOf i (getD table j 0))) k ≡ stands (getD (rowOf j) i (one 0)) k
 allowed j i k = rw (table-at j) (ap (λ (p : Place). stands p k) (byte-place (rowOf j) (row-coded j) i))
 
--- kind k in the List at a place: by the definition, and by the number with which reading asks, 32 less for a seq and 64 less for an Option
-abbrev pub inside : Place → ℕ → Bool
-inside (kinds from to) k = false
-inside name k = false
-inside (seq p) k = stands p k
-inside (option p) k = stands p k
-
-abbrev pub insideOf : ℕ → ℕ → Bool
-insideOf c k = cond (leb 64 c) (stands (placeOf (c - 64)) k) (cond (leb 32 c) (stands (placeOf (c - 32)) k) false)
-
+-- kind k in the List at field i
 inside-of : (c k : ℕ) → c < 96 → insideOf c k ≡ inside (placeOf c) k
 inside-of c k h =
     elim (decLe 64 c) [

@@ -1,6 +1,6 @@
 -- The runs of kinds: what holds of each kind of a run and of each place rests on one test over both, which antt computes. Assumes nothing.
 use mathlib.Core.Path.{_≡_, refl, sym, ap, _∙_}
-use mathlib.Core.Bool.{Bool, true, false, _&&_}
+use mathlib.Core.Bool.{Bool, true, false, _&&_, and-false}
 use Prim.Native.Nat.{ℕ, zero, suc, _+_, _<_, _≤_}
 use native.Mathlib.Omega.{arith}
 use native.Mathlib.Decide.{decLe}
@@ -43,12 +43,8 @@ pub run-past : (k : ℕ) → 135 ≤ k → (p : ℕ) → 4 ≤ p → p < 27 → 
 unfolding under placeOf
 run-past k h p g u = ne-eqb p 0 (λ e. omega arith) ∙ sym (go (placeOf p) (each-at (λ q. under (placeOf q)) 23 4 refl p g u))
   where
-    none : (b : Bool) → (b && false) ≡ false
-    none true = refl
-    none false = refl
-
     go : (q : Place) → under q ≡ true → stands q k ≡ false
-    go (kinds from to) t = let l = ltb-true to 135 t in rw (lt-leb k to (omega arith)) (none (leb from k))
+    go (kinds from to) t = let l = ltb-true to 135 t in rw (lt-leb k to (omega arith)) (and-false (leb from k))
     go name t = cc
     go (seq q) t = cc
     go (option q) t = cc

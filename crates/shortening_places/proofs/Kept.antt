@@ -85,7 +85,8 @@ module _ (pass : Pass) (card root out : Bytes) (work list : List ℕ) (bc : (i :
           → Promise pass card root out work list r out′ work′ list′
       kept work′ z r f =
           promised pass card root out work list r out′ work′ list′ bc br
-          (rw (f, z ∙ ap (λ (n : ℕ). replicate n 0) (words-all card root work v e h words words-long)) (made pass card root out work list bc br is-sound (take 2048 work) most p out′ words list′ o))
+          (rw (f, z ∙ ap (λ (n : ℕ). replicate n 0) (words-all card root work v e h words words-long))
+          (made pass card root out work list bc br is-sound (take 2048 work) most p out′ words list′ o))
 
 -- by words of its own
 abbrev own-words : List ℕ

@@ -1,12 +1,11 @@
 -- `reading::read_content` meets its contract. It calls itself, and what falls is how deep records may go. Each need is a law of Turns.
 -- Assumes nothing.
-use mathlib.Core.Path.{_≡_}
-use Prim.Native.Nat.{ℕ, _+_, _-_, _*_, _<_}
+use Prim.Native.Nat.{ℕ, _+_, _-_, _<_}
 use native.Mathlib.Omega.{arith}
 use borrow.Author.Needs.{needs}
 use Rattle.wire.specs.Numbers.{between}
 use Rattle.reading.specs.Reads.{reads}
-use Rattle.reading.specs.Codes.{rowContent, said}
+use Rattle.reading.specs.Codes.{rowContent}
 use Rattle.reading.proofs.Rows.{good-valid, row-read}
 use Rattle.reading.proofs.Turns.{Turn, turn-start, turn-end, turn-cut, turn-left, turn-short, turn-wrong, turn-deep, Head, head}
 use Rattle.reading.proofs.Turns.{turn-leaf, turn-empty, turn-hollow, turn-good, turn-last, turn-fault, turn-inner}
@@ -69,7 +68,7 @@ calls t = (
   read-content.Post,
 )
 
--- at a record whose kind may stand there: the turn, the function's start, and what is known where it is not too deep and where it is
+-- at a record whose kind may stand there: the turn, the function's start, and what is known
 abbrev Passed : ℕ → Type 0
 Passed t = lts.After-row-after (calls t) (at-depth t) read-content.Post Inv-loop μ-loop
 
@@ -82,27 +81,15 @@ start-of t c = turn-of t c .before .before .before
 passed : (t : ℕ) (c : Passed t) →
     let a = start-of t c .args in
     let l = turn-of t c .before .loop in
-    (l .left ≡ 0 → ⊥) →
     Head (reads (a .deep) (rowContent (a .first)) (a .from) (between (a .card .now) (a .from) (a .to))) (a .card .now) (a .to) (a .deep)
     (l .i) (l .row) (l .left) (c .before .before .before .before .record-kind .result)
     (l .i + 4 + c .before .record-length .result) (c .row-after .result)
-passed t c deeper =
+passed t c =
     let stand = c .before .before .before in
     let short = stand .before .before in
     head (turn-of t c .before .loop .inv) (turn-of t c .loop-test .taken) (start-of t c .pre .1 .2) (short .before .before .before .if1 .left)
     (short .before .is-short .ensures) (short .if2 .left) (stand .before .record-kind .ensures .0) (stand .may-stand .ensures)
-    (c .before .before .if3 .left) deeper (c .before .record-length .ensures .0) (c .row-after .ensures)
-
-bottom : (t : ℕ) (c : Passed t) →
-    let a = start-of t c .args in
-    let l = turn-of t c .before .loop in
-    l .left ≡ 0 → said (8 * l .i + 6) ≡ reads (a .deep) (rowContent (a .first)) (a .from) (between (a .card .now) (a .from) (a .to))
-bottom t c none =
-    let stand = c .before .before .before in
-    let short = stand .before .before in
-    turn-deep (turn-of t c .before .loop .inv) (turn-of t c .loop-test .taken) (start-of t c .pre .1 .2) (short .before .before .before .if1 .left)
-    (short .before .is-short .ensures) (short .if2 .left) (stand .before .record-kind .ensures .0) (stand .may-stand .ensures)
-    (c .before .before .if3 .left) none
+    (c .before .before .if3 .left) (c .before .record-length .ensures .0) (c .row-after .ensures)
 
 loop-holds : (t : ℕ) → lts.Need-loop-holds (calls t) (at-depth t) read-content.Post Inv-loop μ-loop
 loop-holds t c = turn-start _ _ _ _ _ (c .before .pre .1 .0) (c .before .pre .1 .1)
@@ -214,16 +201,15 @@ add-result-4 t c =
     omega (arith, start-of t row .pre .1 .3, turn-of t row .loop-test .taken)
 
 returns-4 : (t : ℕ) → lts.Need-returns-4 (calls t) (at-depth t) read-content.Post Inv-loop μ-loop
-returns-4 t c =
-    bottom t (c .before .before) (c .if5 .taken)
+returns-4 t c = turn-deep (passed t (c .before .before)) (c .if5 .taken)
 
 loop-less : (t : ℕ) → lts.Need-loop-less (calls t) (at-depth t) read-content.Post Inv-loop μ-loop
 loop-less t c =
-    let head = passed t (c .before .before) (c .if5 .left) in
+    let head = passed t (c .before .before) in
     omega (arith, head .after-head, head .inside)
 
 loop-again : (t : ℕ) → lts.Need-loop-again (calls t) (at-depth t) read-content.Post Inv-loop μ-loop
-loop-again t c = turn-leaf (passed t (c .before .before) (c .if5 .left)) (c .before .if4 .taken)
+loop-again t c = turn-leaf (passed t (c .before .before)) (c .if5 .left) (c .before .if4 .taken)
 
 row-in-requires : (t : ℕ) → lts.Need-row-in-requires (calls t) (at-depth t) read-content.Post Inv-loop μ-loop
 row-in-requires t c κs =
@@ -242,8 +228,7 @@ add-result-5 t c =
     omega (arith, start-of t row .pre .1 .3, turn-of t row .loop-test .taken)
 
 returns-5 : (t : ℕ) → lts.Need-returns-5 (calls t) (at-depth t) read-content.Post Inv-loop μ-loop
-returns-5 t c =
-    bottom t (c .before .before .before) (c .if6 .taken)
+returns-5 t c = turn-deep (passed t (c .before .before .before)) (c .if6 .taken)
 
 add-if7 : (t : ℕ) → lts.Need-add-if7 (calls t) (at-depth t) read-content.Post Inv-loop μ-loop
 add-if7 t c =
@@ -259,13 +244,13 @@ may-end-requires t c κs = search needs
 mul-result-6 : (t : ℕ) → lts.Need-mul-result-6 (calls t) (at-depth t) read-content.Post Inv-loop μ-loop
 mul-result-6 t c =
     let row = c .before .before .before .before .before .before .before in
-    let head = passed t row (c .before .before .before .before .if6 .left) in
+    let head = passed t row in
     omega (arith, head .inside, start-of t row .pre .1 .3)
 
 add-result-6 : (t : ℕ) → lts.Need-add-result-6 (calls t) (at-depth t) read-content.Post Inv-loop μ-loop
 add-result-6 t c =
     let row = c .before .before .before .before .before .before .before in
-    let head = passed t row (c .before .before .before .before .if6 .left) in
+    let head = passed t row in
     omega (arith, head .inside, start-of t row .pre .1 .3)
 
 returns-6 : (t : ℕ) → lts.Need-returns-6 (calls t) (at-depth t) read-content.Post Inv-loop μ-loop
@@ -273,12 +258,12 @@ returns-6 t c =
     let row = c .before .before .before .before .before .before .before in
     let start = start-of t row in
     let one = c .before .before .before in
-    turn-hollow (passed t row (one .before .if6 .left)) (one .before .before .before .if4 .left) (one .if7 .taken)
+    turn-hollow (passed t row) (one .before .if6 .left) (one .before .before .before .if4 .left) (one .if7 .taken)
     (row-read (start .args .t .now) _ _ (start .pre .1 .4) (c .before .before .row-at .ensures)) (c .before .may-end .ensures) (c .if8 .taken)
 
 loop-less-2 : (t : ℕ) → lts.Need-loop-less-2 (calls t) (at-depth t) read-content.Post Inv-loop μ-loop
 loop-less-2 t c =
-    let head = passed t (c .before .before .before .before .before .before .before) (c .before .before .before .before .if6 .left) in
+    let head = passed t (c .before .before .before .before .before .before .before) in
     omega (arith, head .after-head, head .inside)
 
 loop-again-2 : (t : ℕ) → lts.Need-loop-again-2 (calls t) (at-depth t) read-content.Post Inv-loop μ-loop
@@ -286,7 +271,7 @@ loop-again-2 t c =
     let row = c .before .before .before .before .before .before .before in
     let start = start-of t row in
     let one = c .before .before .before in
-    turn-empty (passed t row (one .before .if6 .left)) (one .before .before .before .if4 .left) (one .if7 .taken)
+    turn-empty (passed t row) (one .before .if6 .left) (one .before .before .before .if4 .left) (one .if7 .taken)
     (row-read (start .args .t .now) _ _ (start .pre .1 .4) (c .before .before .row-at .ensures)) (c .before .may-end .ensures) (c .if8 .left)
 
 may-end-requires-2 : (t : ℕ) → lts.Need-may-end-requires-2 (calls t) (at-depth t) read-content.Post Inv-loop μ-loop
@@ -302,14 +287,14 @@ sub-left t c = search needs
 
 loop-less-3 : (t : ℕ) → lts.Need-loop-less-3 (calls t) (at-depth t) read-content.Post Inv-loop μ-loop
 loop-less-3 t c =
-    let head = passed t (c .before .before .before .before .before .before .before) (c .before .before .before .before .if6 .left) in
+    let head = passed t (c .before .before .before .before .before .before .before) in
     omega (arith, head .after-head, head .inside)
 
 loop-again-3 : (t : ℕ) → lts.Need-loop-again-3 (calls t) (at-depth t) read-content.Post Inv-loop μ-loop
 loop-again-3 t c =
     let more = c .before .before .before in
     let held = more .before .before in
-    turn-last (passed t (held .before .before) (more .before .if6 .left)) (held .before .if4 .left) (more .if7 .left) (held .row-in .ensures)
+    turn-last (passed t (held .before .before)) (more .before .if6 .left) (held .before .if4 .left) (more .if7 .left) (held .row-in .ensures)
     (c .before .before .if9 .taken) (c .before .may-end2 .ensures) (c .if10 .taken)
 
 add-read-content : (t : ℕ) → lts.Need-add-read-content (calls t) (at-depth t) read-content.Post Inv-loop μ-loop
@@ -327,8 +312,8 @@ read-content-requires t c κs =
     let row = held .before .before in
     let start = start-of t row in
     let loop = turn-of t row .before in
-    let head = passed t row (more .before .if6 .left) in
-    let good = turn-good head (held .before .if4 .left) (more .if7 .left) (held .row-in .ensures) in (
+    let head = passed t row in
+    let good = turn-good head (more .before .if6 .left) (held .before .if4 .left) (more .if7 .left) (held .row-in .ensures) in (
       omega (arith, start .pre .0, loop .loop .inv .under, more .before .if6 .left),
       (
         good,
@@ -343,19 +328,19 @@ returns-7 : (t : ℕ) → lts.Need-returns-7 (calls t) (at-depth t) read-content
 returns-7 t c =
     let more = c .before .before .before in
     let held = more .before .before in
-    turn-fault (passed t (held .before .before) (more .before .if6 .left)) (held .before .if4 .left) (more .if7 .left) (held .row-in .ensures)
+    turn-fault (passed t (held .before .before)) (more .before .if6 .left) (held .before .if4 .left) (more .if7 .left) (held .row-in .ensures)
     (c .before .read-content .ensures) (c .if11 .taken)
 
 loop-less-4 : (t : ℕ) → lts.Need-loop-less-4 (calls t) (at-depth t) read-content.Post Inv-loop μ-loop
 loop-less-4 t c =
-    let head = passed t (c .before .before .before .before .before .before .before) (c .before .before .before .before .if6 .left) in
+    let head = passed t (c .before .before .before .before .before .before .before) in
     omega (arith, head .after-head, head .inside)
 
 loop-again-4 : (t : ℕ) → lts.Need-loop-again-4 (calls t) (at-depth t) read-content.Post Inv-loop μ-loop
 loop-again-4 t c =
     let more = c .before .before .before in
     let held = more .before .before in
-    turn-inner (passed t (held .before .before) (more .before .if6 .left)) (held .before .if4 .left) (more .if7 .left) (held .row-in .ensures)
+    turn-inner (passed t (held .before .before)) (more .before .if6 .left) (held .before .if4 .left) (more .if7 .left) (held .row-in .ensures)
     (c .before .read-content .ensures) (c .if11 .left)
 
 may-end-requires-3 : (t : ℕ) → lts.Need-may-end-requires-3 (calls t) (at-depth t) read-content.Post Inv-loop μ-loop

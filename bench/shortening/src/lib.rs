@@ -56,6 +56,8 @@ pub enum Mark {
     Use = 3,
 }
 
+/// The last request of document 02 that is answered here. Vectors of later ones aren't read.
+pub const LANDED: u32 = 4;
 /// Work words: fewer are refused, and the console's call brings so many.
 pub const WORDS: usize = 2048;
 pub const MOST_CARD: usize = 32768;

@@ -7,24 +7,20 @@ use std::hint::black_box;
 use std::process::ExitCode;
 use std::time::{Duration, Instant};
 use yardstick::random::Cards;
-use yardstick::text::{self, Vector};
+use yardstick::text;
 use yardstick::{classes, own, reader, tree, Answer, Operation, MOST_CARD, MOST_TIMES, WORDS};
 
 const USAGE: &str = "\
-shortening [--vectors FILE] [--places FILE] [--straight FILE] [--cards N] [--seed S]
-                                         every answer, then the time
-shortening vectors FILE                  only the answers to vectors
-shortening places FILE                   only those to vectors with lists of places
-shortening straight FILE                 only those to vectors of straight shortening
-shortening random [N [SEED]]             only those to random cards
-shortening only WAY CLASS TIMES [FILE]   for a profiler: console, tree or walk over a class, straight shortening
-                                         if +straight stands behind its name, with a list if +list does
-shortening reading WAY CLASS TIMES [FILE]  the same with cards that are only read: console or reader";
-
-/// What the vectors of each file are called.
-const VECTORS: &str = "vectors";
-const PLACES: &str = "places";
-const STRAIGHT: &str = "straight vectors";
+shortening [--vectors VECTORS] [--cards N] [--seed S]
+                              every answer, then the time; VECTORS is a folder of files
+shortening vectors VECTORS    only the answers to vectors
+shortening random [N [SEED]]  only those to random cards
+shortening only WAY CLASS TIMES [VECTORS]
+                              for a profiler: console, tree or walk over a class, straight
+                              shortening if +straight stands behind its name, with a list if
+                              +list does
+shortening reading WAY CLASS TIMES [VECTORS]
+                              the same with cards that are only read: console or reader";
 
 const CARDS: usize = 20_000;
 const SEED: u64 = 1;
@@ -216,46 +212,55 @@ fn report_reading(classes: &[Class], out: &mut [u8]) {
     }
 }
 
-type Read = fn(&str) -> Result<Vec<Vector>, String>;
-
-/// The vectors of a file, none where there is no file.
-fn of_file(read: Read, file: Option<&str>) -> Result<Vec<Case>, String> {
-    let vectors = file.map_or(Ok(Vec::new()), read)?;
-    Ok(vectors.into_iter().map(Case::of_vector).collect())
+/// The vectors of one file.
+struct Vectors {
+    name: String,
+    changed: usize,
+    cases: Vec<Case>,
 }
 
-/// Only the answers to the vectors of a file.
-fn agree_on(what: &str, read: Read, file: &str) -> Result<bool, String> {
-    let cases = of_file(read, Some(file))?;
-    Ok(agree(what, &cases, &mut Buffers::new(&cases)))
+/// Those of a folder, none where there is no folder.
+fn vectors_of(folder: Option<&str>) -> Result<Vec<Vectors>, String> {
+    let files = folder.map_or(Ok(Vec::new()), text::folder)?;
+    let of_file = |file: text::File| Vectors {
+        name: file.name,
+        changed: file.changed,
+        cases: file.vectors.into_iter().map(Case::of_vector).collect(),
+    };
+    Ok(files.into_iter().map(of_file).collect())
 }
 
-/// The vectors as a class. The console's call can't be given fewer work words than it brings.
-fn as_class(vectors: Vec<Case>) -> Option<Class> {
-    let cases: Vec<Case> = vectors.into_iter().filter(|c| c.words >= WORDS).collect();
+fn buffers_for(files: &[Vectors]) -> Buffers {
+    Buffers::new(files.iter().flat_map(|file| &file.cases))
+}
+
+/// The answers to the vectors, file by file: whether none differs.
+fn agree_on(files: &[Vectors], buffers: &mut Buffers) -> bool {
+    let mut same = true;
+    for Vectors { name, changed, cases } in files {
+        println!("{name}: {} lines, {changed} of them answered otherwise by a later file", cases.len());
+        same &= agree(name, cases, buffers);
+    }
+    same
+}
+
+/// The vectors of document 01 as a class. The console's call can't be given fewer work words than it
+/// brings.
+fn as_class(files: Vec<Vectors>) -> Option<Class> {
+    let vectors = files.into_iter().next()?;
+    let cases: Vec<Case> = vectors.cases.into_iter().filter(|c| c.words >= WORDS).collect();
     (!cases.is_empty()).then(|| Class { what: "vectors".to_string(), cases })
 }
 
-#[derive(Default)]
-struct Files<'f> {
-    vectors: Option<&'f str>,
-    places: Option<&'f str>,
-    straight: Option<&'f str>,
-}
-
-fn run(files: Files, cards: usize, seed: u64) -> Result<bool, String> {
-    let vectors = of_file(text::vectors, files.vectors)?;
-    let places = of_file(text::places, files.places)?;
-    let straight = of_file(text::straight, files.straight)?;
+fn run(folder: Option<&str>, cards: usize, seed: u64) -> Result<bool, String> {
+    let vectors = vectors_of(folder)?;
     let mut classes = of_classes();
-    let mut buffers = Buffers::new(vectors.iter().chain(&places).chain(&straight));
+    let mut buffers = buffers_for(&vectors);
     let own = own::cases().into_iter().chain(own::differing()).map(|c| {
         let out = c.card.len() * MOST_TIMES;
         Case::new(c.root, c.card, out, c.words)
     });
-    let mut same = vectors.is_empty() || agree(VECTORS, &vectors, &mut buffers);
-    same &= places.is_empty() || agree(PLACES, &places, &mut buffers);
-    same &= straight.is_empty() || agree(STRAIGHT, &straight, &mut buffers);
+    let mut same = agree_on(&vectors, &mut buffers);
     same &= agree("own cards", own, &mut buffers);
     same &= agree("classes", classes.iter().flat_map(|class| &class.cases), &mut buffers);
     same &= agree("random cards", random(cards, seed), &mut buffers);
@@ -285,22 +290,22 @@ fn racer(name: &str) -> Result<Racer, String> {
 }
 
 /// A class by its name, and buffers for it.
-fn class(name: &str, file: Option<&str>) -> Result<(Class, Buffers), String> {
-    let vectors = of_file(text::vectors, file)?;
-    let buffers = Buffers::new(&vectors);
+fn class(name: &str, folder: Option<&str>) -> Result<(Class, Buffers), String> {
+    let vectors = vectors_of(folder)?;
+    let buffers = buffers_for(&vectors);
     let classes = of_classes().into_iter().chain(as_class(vectors));
     let class = { classes }.find(|c| c.what == name).ok_or("no such class")?;
     Ok((class, buffers))
 }
 
-fn only(way: &str, name: &str, times: &str, file: Option<&str>) -> Result<bool, String> {
-    let (class, mut buffers) = class(name, file)?;
+fn only(way: &str, name: &str, times: &str, folder: Option<&str>) -> Result<bool, String> {
+    let (class, mut buffers) = class(name, folder)?;
     class.turn(racer(way)?, number(times)?, &mut buffers.out, &mut buffers.list[..LONG]);
     Ok(true)
 }
 
-fn only_reading(way: &str, name: &str, times: &str, file: Option<&str>) -> Result<bool, String> {
-    let (class, mut buffers) = class(name, file)?;
+fn only_reading(way: &str, name: &str, times: &str, folder: Option<&str>) -> Result<bool, String> {
+    let (class, mut buffers) = class(name, folder)?;
     let (_, reader) = READERS.iter().find(|(what, _)| *what == way).ok_or("no such way")?;
     class.only_read(&mut buffers.out).read(*reader, number(times)?, &mut buffers.out);
     Ok(true)
@@ -313,32 +318,30 @@ fn number<T: std::str::FromStr>(digits: &str) -> Result<T, String> {
 /// Whether nothing differs, or what is wrong with what was asked.
 fn asked(words: &[&str]) -> Result<bool, String> {
     match *words {
-        ["vectors", file] => agree_on(VECTORS, text::vectors, file),
-        ["places", file] => agree_on(PLACES, text::places, file),
-        ["straight", file] => agree_on(STRAIGHT, text::straight, file),
+        ["vectors", folder] => {
+            let vectors = vectors_of(Some(folder))?;
+            Ok(agree_on(&vectors, &mut buffers_for(&vectors)))
+        }
         ["random", ref rest @ ..] if rest.len() <= 2 => {
             let cards = rest.first().map_or(Ok(CARDS), |n| number(n))?;
             let seed = rest.get(1).map_or(Ok(SEED), |n| number(n))?;
             Ok(agree("random cards", random(cards, seed), &mut Buffers::new([])))
         }
         ["only", way, class, times] => only(way, class, times, None),
-        ["only", way, class, times, file] => only(way, class, times, Some(file)),
+        ["only", way, class, times, folder] => only(way, class, times, Some(folder)),
         ["reading", way, class, times] => only_reading(way, class, times, None),
-        ["reading", way, class, times, file] => only_reading(way, class, times, Some(file)),
+        ["reading", way, class, times, folder] => only_reading(way, class, times, Some(folder)),
         ref options => {
-            let mut files = Files::default();
-            let (mut cards, mut seed) = (CARDS, SEED);
+            let (mut folder, mut cards, mut seed) = (None, CARDS, SEED);
             for option in options.chunks(2) {
                 match *option {
-                    ["--vectors", name] => files.vectors = Some(name),
-                    ["--places", name] => files.places = Some(name),
-                    ["--straight", name] => files.straight = Some(name),
+                    ["--vectors", name] => folder = Some(name),
                     ["--cards", n] => cards = number(n)?,
                     ["--seed", n] => seed = number(n)?,
                     _ => return Err(USAGE.to_string()),
                 }
             }
-            run(files, cards, seed)
+            run(folder, cards, seed)
         }
     }
 }

@@ -210,7 +210,7 @@ pub fn cases() -> Vec<Case> {
 
     sort = "Self, Crate and Global as paths and bases";
     put(&[types(&["Self::X"])], sort);
-    put(&[values(&["Self::x", "Self::x!", "Self::!", "Self::"])], sort);
+    put(&[values(&["Self::x", "Self::x!", "Self::!!"])], sort);
     put(&[types(&["Self", "crate", ""]), values(&["Self", "crate", ""])], sort);
     put(&[types(&["Self::a::X", "Self::a::b::X", "::Self::X", "crate::Self::X"])], sort);
     put(&[types(&["::X", "crate::X", "Self::X"]), values(&["::y", "crate::y", "Self::y"])], sort);
@@ -227,13 +227,32 @@ pub fn cases() -> Vec<Case> {
     put(&[trait_(&[], identifier_type("T!"), none(), &[]), values(&["::a::T!"])], sort);
 
     sort = "empty names and names of marks only";
-    put(&[values(&["::a::!"])], sort);
-    put(&[types(&["::a::!"])], sort);
-    put(&[values(&["::a::!!", "::a::!", "::a::"]), types(&["::a::!", "::a::"])], sort);
-    put(&[values(&["::"]), types(&["crate::m::", "::b::"])], sort);
-    put(&[constant("", ty("::a::"), ex("::b::!"))], sort);
-    put(&[nested(module("", &[])), nested(extern_module("")), types(&["crate::m::"])], sort);
+    put(&[values(&["::a::!!"])], sort);
+    put(&[types(&["::a::!!"])], sort);
+    put(&[values(&["::a::!!", "::a::!!!"]), types(&["::a::!!", "::a::!!!"])], sort);
+    put(&[values(&["::!!"]), types(&["crate::m::!!", "::b::!!"])], sort);
+    put(&[constant("", ty("::a::!!"), ex("::b::!!"))], sort);
+    put(&[constant("!", ty("::a::!!"), ex("crate::m::!!"))], sort);
+    put(&[constant("!!", ty("crate::m::!!"), ex("crate::m::!!"))], sort);
+    put(&[nested(module("", &[])), nested(extern_module("")), types(&["crate::m::!!"])], sort);
+    put(&[nested(module("!", &[])), nested(extern_module("!!")), values(&["::a::!!", "::a::!!!"])], sort);
+    put(&[trait_(&[], identifier_type("!"), none(), &[]), values(&["::a::!!", "crate::m::!!"])], sort);
+    put(&[top_fn(function("", &[], &[], none(), none())), values(&["::a::!!"])], sort);
+    put(&[types(&["::!!::X", "::!!::!!::X", "::X"])], sort);
+    put(&[identifier_type(""), identifier_type("!")].map(|of| only_types(&[of])), sort);
+
+    sort = "paths without a name";
+    let params = [param("T", tys(["::a::X", "::a::!"]))];
+    put(&[implementation(&params, bool_type(), &[])], sort);
+    put(&[trait_(&[], identifier_type("T"), tys(["::a::T", "::b::"]), &[])], sort);
+    put(&[enumeration("E", &[], &[nameless_fields(&[ty("::!::X")])])], sort);
+    put(&[top_fn(function("f", &[], &[], list(&[ty("::a::X")]), list(&[ex("::!")])))], sort);
+    put(&[only_types(&[record(0x34, &[tys(["::a::X"]), ty("::a::")])])], sort);
+    put(&[only_values(&[record(0x4B, &[ty("::"), ty("::")])])], sort);
+    put(&[nested(module("b", &[nested(module("c", &[values(&["Self::x", "Self::!"])]))]))], sort);
+    put(&[types(&["::a::X"]), use_decl("::a::X"), use_decl("crate::m::")], sort);
     put(&[types(&["::::X", "::::::X", "::X"])], sort);
+    put(&[types(&["::a::b::c::d::e::!::f::g"])], sort);
 
     sort = "a struct's fields against an enum's";
     put(&[structure("S", &[], named_fields(&[ty("::a::X"), borrowed(3)]))], sort);
@@ -388,7 +407,9 @@ pub fn cases() -> Vec<Case> {
     under(sort, "", m(&["::m::X", "::m", "::m::k", "crate::m::X"]));
     under(sort, "Self", m(&["Self::m::X", "Self::m", "Self::k", "crate::m::X"]));
     under(sort, "crate::a", m(&["crate::a::m::X", "crate::a::X", "crate::m::X"]));
-    under(sort, "crate::", m(&["crate::::m::X", "crate::m::X"]));
+    under(sort, "crate::", m(&["crate::!!::m::X", "crate::m::X"]));
+    under(sort, "::!", extern_module("a"));
+    under(sort, "crate::!!", m(&["crate::!!::m::X", "crate::!!::X", "crate::m::X"]));
     under(sort, "::a::b::c", m(&["::a::b::c::m::k", "::a::b::c::k"]));
     under(
         sort,
@@ -396,8 +417,10 @@ pub fn cases() -> Vec<Case> {
         m(&["crate::a::a::a::a::a::a::m::X", "crate::a::a::a::a::a::m::X"]),
     );
     under(sort, "crate::a::a::a::a::a::a::a", m(&["::X"]));
-    under(sort, "crate", module("", &body(&["crate::::X", "crate::X", "crate::"])));
-    under(sort, "crate", module("!", &body(&["crate::!::X"])));
+    under(sort, "crate", module("", &body(&["crate::X", "crate::k", "::a::k"])));
+    under(sort, "crate", module("!", &body(&["crate::X", "::a::k", "::dafny_runtime::k"])));
+    under(sort, "crate", module("!!", &body(&["crate::!!::X", "crate::X", "crate::!!::!!"])));
+    under(sort, "crate", module("", &body(&["crate::::X", "crate::X"])));
     under(sort, "crate", module("Self", &body(&["crate::Self::X", "Self::X", "Self::Self"])));
     under(sort, &format!("::{}", "r".repeat(238)), m(&[&format!("::{}::m::X", "r".repeat(238))]));
     under(sort, &format!("::{}", "r".repeat(239)), m(&["::a::X"]));
@@ -467,7 +490,7 @@ pub fn differing() -> Vec<Case> {
     put(&[b(&[types(&["crate::m::b::b::X", "::a::X", "crate::m::b::X", "::dafny_runtime::X"])])], sort);
     put(&[b(&[types(&["crate::m::b::b::X", "::c::Y"])])], sort);
     put(&[b(&[types(&["crate::m::b::X", "::c::Y"])])], sort);
-    put(&[b(&[values(&["crate::m::b::x!", "crate::m::b::b::y!", "crate::m::b::!"])])], sort);
+    put(&[b(&[values(&["crate::m::b::x!", "crate::m::b::b::y!", "crate::m::b::!!"])])], sort);
     put(
         &[b(&[
             structure("X", &[], named_fields(&[ty("crate::m::b::X"), ty("crate::m::b::b::X")])),
@@ -489,7 +512,7 @@ pub fn differing() -> Vec<Case> {
     put(&[each(), b(&[each(), nested(module("c", &[each()])), each()]), each()], sort);
     put(&[b(&[types(&["crate::m::c::X"])]), nested(module("c", &[types(&["crate::m::c::X"])]))], sort);
     put(&[nested(module("m", &[types(&["crate::m::X", "crate::m::m::X", "crate::m::m::m::X"])]))], sort);
-    put(&[nested(module("", &[types(&["crate::m::::X", "crate::m::::::X"])]))], sort);
+    put(&[nested(module("!!", &[types(&["crate::m::!!::X", "crate::m::!!::!!::X"])]))], sort);
     // A path is the own name's pair under one prefix, and one pair too many under the other.
     for base in ["crate::m::b", "crate::m::b::b"] {
         let mut body = extern_modules(512);

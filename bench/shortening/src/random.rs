@@ -35,7 +35,7 @@ impl Draws {
     }
 }
 
-const NAMES: [&str; 20] = [
+const NAMES: [&str; 22] = [
     "X",
     "Y",
     "Z",
@@ -46,6 +46,7 @@ const NAMES: [&str; 20] = [
     "rd!",
     "X!",
     "X!!",
+    "a!",
     "!",
     "!!",
     "",
@@ -53,6 +54,7 @@ const NAMES: [&str; 20] = [
     "Self",
     "crate",
     "r#X",
+    "r#",
     "default__",
     "a_name_that_is_somewhat_longer_than_the_others",
     "\u{e9}\u{2026}",
@@ -79,7 +81,7 @@ const BASES: [&str; 21] = [
     "::a::a",
     "::a::b::a",
     "::std::rc",
-    "::",
+    "::!!",
 ];
 
 const ROOTS: [&str; 9] = [
@@ -93,6 +95,8 @@ const ROOTS: [&str; 9] = [
     "::a::b::c",
     "crate::a::a::a::a::a::a::a",
 ];
+
+const NAMELESS_ROOTS: [&str; 6] = ["crate::", "::!", "::::a", "crate::!::a", "::a::b::!", "Self::"];
 
 /// Cards without end, the same for the same seed.
 pub struct Cards {
@@ -135,6 +139,17 @@ impl Cards {
         }
     }
 
+    /// A name that a path may have.
+    fn path_name(&mut self) -> Bytes {
+        loop {
+            let name = self.name();
+            if is_name(&name) {
+                return name;
+            }
+        }
+    }
+
+    /// A path with a name in each of its parts. Modules may have none: their prefixes aren't taken then.
     fn path(&mut self) -> Bytes {
         let operation = self.draws.below(2);
         let prefix = self.prefixes.last().map_or(&self.root, |prefixes| &prefixes[operation]);
@@ -146,10 +161,13 @@ impl Cards {
             5 if self.draws.once(2) => return path(self.draws.of(&["", "crate", "Self"])),
             _ => self.draws.of(&self.bases),
         };
-        while self.draws.once(10) {
-            base = select(base, self.name());
+        if !is_named(&base) {
+            base = self.draws.of(&self.bases);
         }
-        let mut name = self.name();
+        while self.draws.once(10) {
+            base = select(base, self.path_name());
+        }
+        let mut name = self.path_name();
         if self.draws.once(8) {
             name.push(b'!');
         }
@@ -255,6 +273,42 @@ impl Cards {
         record(0x60, &[text(self.draws.bytes(3)), kept(&self.draws.bytes(3)), text(name), list(&body)])
     }
 
+    /// Takes the name from a path in sound bytes, where there is one.
+    fn unname(&mut self, bytes: &mut Bytes) {
+        let name = text(self.draws.of(&["", "!"]));
+        self.rename(bytes, name);
+    }
+
+    /// The same, now and then with more that is wrong there.
+    fn unname_badly(&mut self, bytes: &mut Bytes) {
+        let name = self.draws.of(&["", "!"]);
+        let wrong = match self.draws.below(12) {
+            0 => kept(name.as_bytes()),
+            1 => text(name)[..self.draws.below(6)].to_vec(),
+            2 => [vec![1, 0, 0, 0, 1, 0], name.into()].concat(),
+            3..=5 => [text(name), self.draws.bytes(9)].concat(),
+            _ => text(name),
+        };
+        self.rename(bytes, wrong);
+    }
+
+    /// Puts this for the name of a path. The records around it stay whole.
+    fn rename(&mut self, bytes: &mut Bytes, name: Bytes) {
+        let records = records(bytes);
+        let paths: Vec<_> = records.iter().copied().filter(|&(at, ..)| bytes[at + 4] == 0x13).collect();
+        if paths.is_empty() {
+            return;
+        }
+        // Now and then one whose name is as deep as may be, or too deep.
+        let deep = paths.iter().find(|&&(_, _, depth)| depth >= 47).filter(|_| self.draws.once(2));
+        let (at, stop, _) = deep.copied().unwrap_or_else(|| self.draws.of(&paths));
+        let old = end(bytes, at + 6);
+        for &(start, end, _) in records.iter().filter(|r| r.0 <= at && stop <= r.1) {
+            set_length(bytes, start, end - start + name.len() - (stop - old));
+        }
+        bytes.splice(old..stop, name);
+    }
+
     /// Something in sound bytes that mostly makes them unsound.
     fn damage(&mut self, bytes: &mut Bytes) {
         let records = records(bytes);
@@ -310,6 +364,19 @@ fn end(bytes: &[u8], at: usize) -> usize {
     at + 4 + length as usize
 }
 
+/// Whether a path may have it.
+fn is_name(name: &[u8]) -> bool {
+    !matches!(name, b"" | b"!")
+}
+
+/// Whether every part of a path has a name.
+fn is_named(path: &[u8]) -> bool {
+    path[4] != 0x13 || {
+        let name = end(path, 6);
+        is_name(&path[name + 6..]) && is_named(&path[6..name])
+    }
+}
+
 /// Where the records of sound bytes stand and end, and how deep they are.
 fn records(bytes: &[u8]) -> Vec<(usize, usize, u32)> {
     fn inside(bytes: &[u8], mut at: usize, to: usize, depth: u32, all: &mut Vec<(usize, usize, u32)>) {
@@ -354,13 +421,20 @@ impl Iterator for Cards {
             pad(&mut card, more);
         }
         let mut root = self.root.clone();
-        if self.draws.once(3) {
-            self.damage(&mut card);
+        match self.draws.below(45) {
+            0..=13 => self.damage(&mut card),
+            14 => {
+                self.unname(&mut card);
+                self.damage(&mut card);
+            }
+            15..=17 => self.unname_badly(&mut card),
+            _ => {}
         }
         match self.draws.below(120) {
             0 | 1 => self.damage(&mut root),
             2 => root = path(&format!("crate{}", "::a".repeat(6 + self.draws.below(4)))),
             3 => root = select(path(""), "r".repeat(237 + self.draws.below(4))),
+            4 => root = path(self.draws.of(&NAMELESS_ROOTS)),
             _ => {}
         }
         let words = match self.draws.below(80) {

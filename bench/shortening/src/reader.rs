@@ -8,7 +8,7 @@ fn refuse(number: u32, place: usize) -> Reading {
     Err((number, place as u32))
 }
 
-/// The first refusal of 1 to 7.
+/// The first refusal of 1 to 7 and 11.
 pub fn admit(card: &[u8], root: &[u8], words: usize) -> Reading {
     if words < WORDS {
         return refuse(1, 0);
@@ -82,6 +82,15 @@ impl<'a> Records<'a> {
         self.one(0x01, Records::skip)
     }
 
+    /// A Text that names something in a path.
+    fn name(&mut self) -> Reading {
+        let place = self.at;
+        self.one(0x01, |r| match r.bytes[r.at..r.end] {
+            [] | [b'!'] => refuse(11, place),
+            _ => r.skip(),
+        })
+    }
+
     fn kept(&mut self) -> Reading {
         self.one(0x03, Records::skip)
     }
@@ -108,7 +117,7 @@ impl<'a> Records<'a> {
         self.record(0x10..=0x13, |kind, r| match kind {
             0x13 => {
                 r.path()?;
-                r.text()
+                r.name()
             }
             _ => Ok(()),
         })

@@ -1,13 +1,15 @@
-//! Cases whose answers are stated, by the Dafny text or by document 01, and not worked out.
+//! Cases whose answers are stated, by the Dafny text, document 01 or a request, and not worked out.
 use crate::cards::*;
 use crate::{Answer, Operation, MOST_CARD, WORDS};
 
 pub struct Stated {
     pub what: &'static str,
+    pub root: Bytes,
     pub card: Bytes,
-    /// How many bytes are lent, and how many words; the root is crate.
+    /// How many bytes are lent, how many words, and how many of a list, none where no list is.
     pub out: usize,
     pub words: usize,
+    pub lent: Option<usize>,
     pub answer: Answer,
     pub output: Bytes,
 }
@@ -18,12 +20,15 @@ fn m(body: &[Bytes]) -> Bytes {
     module("m", body)
 }
 
+/// Under the root crate, without a list.
 fn accepted(what: &'static str, card: Bytes, output: Bytes) -> Stated {
-    Stated { what, card, out: LENT, words: WORDS, answer: Ok(output.len()), output }
+    let (root, answer) = (path("crate"), Ok(output.len()));
+    Stated { what, root, card, out: LENT, words: WORDS, lent: None, answer, output }
 }
 
 fn refused(what: &'static str, card: Bytes, words: usize, number: u32, place: u32) -> Stated {
-    Stated { what, card, out: LENT, words, answer: Err((number, place)), output: Bytes::new() }
+    let answer = Err((number, place));
+    Stated { words, answer, ..accepted(what, card, Bytes::new()) }
 }
 
 /// A type or an expression that displays its name and holds what it was.
@@ -146,6 +151,137 @@ pub fn wrong_ports(operation: Operation) -> Vec<Stated> {
             with(&[], &constants(&[wrapped("Y", ty("::a::X")), ty("::b::X")])),
             with(&["::b::X"], &constants(&[wrapped("Y", ty("::a::X")), short("::b::X")])),
         ),
+    ]
+}
+
+/// Request 4. The operations answer alike.
+pub fn nameless() -> Vec<Stated> {
+    let borrowed = |times, of| (0..times).fold(of, |t, _| record(0x2F, &[t]));
+    let with_type = |of| implementation(&[], of, &[]);
+    let of_type = |spelled: &str| m(&[with_type(ty(spelled))]);
+    let value = |spelled: &str| m(&[constant("k1", bool_type(), ex(spelled))]);
+    let in_field = |of| m(&[structure("S", &[], named_fields(&[of]))]);
+    let selected =
+        |name: &[Bytes]| m(&[with_type(record(0x2D, &[record(0x13, &[path(""), name.concat()])]))]);
+    let refused = |what, card, number, place| refused(what, card, WORDS, number, place);
+    let under = |root: &str, case| Stated { root: path(root), ..case };
+    // Heads of Mod and its body, three more fields of Mod.
+    let body = 6 + 6 + 6 + 7 + 6;
+    // Heads of ImplDecl and Impl, an empty list; heads of TypeFromPath and its path; Global. In its stead
+    // ::a takes 19 bytes.
+    let after_global = body + 6 + 6 + 6 + 6 + 6 + 6;
+    let after_a = after_global - 6 + 19;
+    // Heads of ConstDecl and Constant, three fields, Bool; heads of ExprFromPath and its path; ::a.
+    let in_value = body + 6 + 6 + (6 + 6 + 8) + 6 + 6 + 6 + 19;
+    // Heads of UseDecl and Use, a Kept, the path's head; ::a.
+    let in_use = body + 6 + 6 + 7 + 6 + 19;
+    // Heads of StructDecl and Struct, four fields; heads of NamedFields and its list; a Field's head and
+    // its Kept; a Formal's head and its name; heads of TypeFromPath and its path; ::a.
+    let field = body + 6 + 6 + (6 + 6 + 7 + 6) + 6 + 6 + 6 + 7 + 6 + 7 + 6 + 6 + 19;
+    let bad = || record(0x6B, &[]);
+    let ends = |mut card: Bytes| {
+        card.push(0);
+        card
+    };
+    let pairs: Vec<Bytes> = (0..513).map(|i: u32| nested(extern_module(i.to_string()))).collect();
+    // Three heads each, and their names.
+    let of_pairs = 513 * 18 + 10 + 2 * 90 + 3 * 413;
+    let own = |value| m(&[constant("!", bool_type(), value)]);
+    let marked = || record(0x42, &[text("!!")]);
+    let nothing = |what, card: Bytes| accepted(what, card.clone(), card);
+    let odd_names = [
+        nested(module("", &[])),
+        nested(extern_module("!")),
+        structure("", &[param("!", none())], named_fields(&[])),
+        synonym("!", &[], identifier_type("")),
+        constant("", identifier_type("!"), record(0x42, &[text("!")])),
+        enumeration("!", &[], &[]),
+        trait_(&[], identifier_type(""), none(), &[type_member("!", bool_type())]),
+        top_fn(function("!", &[], &[formal("", bool_type())], none(), none())),
+    ];
+    vec![
+        refused("an empty name in a type", of_type("::a::"), 11, after_a),
+        refused("a mark alone in a type", of_type("::a::!"), 11, after_a),
+        refused("an empty name in an expression", value("::a::"), 11, in_value),
+        refused("a mark alone in an expression", value("::a::!"), 11, in_value),
+        refused("an empty name in a use", m(&[use_decl("::a::")]), 11, in_use),
+        refused("a mark alone in a use", m(&[use_decl("::a::!")]), 11, in_use),
+        refused("an empty name in a base", of_type("::::X"), 11, after_global + 6),
+        refused("a mark alone in a base", of_type("::!::X"), 11, after_global + 6),
+        // Two heads more, and ::a in the third.
+        refused("a mark alone deep in a base", of_type("::a::!::b::X"), 11, after_a + 2 * 6),
+        refused("a base ahead of its name", of_type("::!::"), 11, after_global + 6),
+        refused("a mark alone behind Self", of_type("Self::!"), 11, after_global),
+        refused("an empty name in a struct's field", in_field(ty("::a::")), 11, field),
+        // Behind the head of the synonym and its display.
+        refused("a mark alone in a synonym's base", m(&[with_type(short("::!"))]), 11, after_global + 19),
+        // The name stands 7 deeper than there are Borrowed, as does Global ahead of it.
+        refused("48 deep", m(&[with_type(borrowed(41, ty("::!")))]), 11, after_global + 41 * 6),
+        refused("49 deep", m(&[with_type(borrowed(42, ty("::!")))]), 6, after_global - 6 + 42 * 6),
+        refused("a base 49 deep", m(&[with_type(borrowed(41, ty("::a::!")))]), 6, after_global + 41 * 6),
+        refused("a Kept for the name", selected(&[kept(b"!")]), 5, after_global),
+        refused("an empty Kept for the name", selected(&[kept(&[])]), 5, after_global),
+        refused("no Text", selected(&[]), 4, after_global),
+        refused("a Text of five bytes", selected(&[vec![2, 0, 0, 0, 1]]), 4, after_global),
+        refused("a Text of length 1", selected(&[vec![1, 0, 0, 0, 1, 0]]), 4, after_global),
+        refused("a Text past the end", selected(&[vec![3, 0, 0, 0, 1, 0]]), 4, after_global),
+        refused("bytes after an empty name", selected(&[text(""), vec![0]]), 11, after_global),
+        refused("bytes after a mark alone", selected(&[text("!"), text("a")]), 11, after_global),
+        refused("bytes after a name", selected(&[text("a"), vec![0]]), 7, after_global + 7),
+        refused("bytes after the card", ends(of_type("::a::!")), 11, after_a),
+        refused("a wrong kind after it", m(&[with_type(ty("::a::!")), bad()]), 11, after_a),
+        refused("a wrong kind ahead of it", m(&[bad(), with_type(ty("::a::!"))]), 5, body),
+        refused("the first of two", m(&[use_decl("::a::!"), with_type(ty("::a::"))]), 11, in_use),
+        accepted(
+            "two marks in a type",
+            of_type("::a::!!"),
+            m(&[use_decl("::a::!!"), with_type(short("::a::!!"))]),
+        ),
+        // Collected without one mark. The use that is put has no name then.
+        accepted(
+            "two marks in an expression",
+            value("::a::!!"),
+            m(&[use_decl("::a::!"), constant("k1", bool_type(), marked())]),
+        ),
+        accepted("two marks, and an own name of one", own(ex("crate::m::!!")), own(marked())),
+        nothing("two marks under a base, and an own name of one", own(ex("::a::!!"))),
+        nothing("two marks in a use", m(&[use_decl("::!!::!!")])),
+        accepted(
+            "an empty module name",
+            module("", &[with_type(ty("::a::X"))]),
+            module("", &[use_decl("::a::X"), with_type(short("::a::X"))]),
+        ),
+        nothing("an ExternMod with an empty name", extern_module("")),
+        nothing("declarations with empty names and marks", module("!", &odd_names)),
+        under("crate::", refused("an empty name in the root", extern_module("a"), 3, 0)),
+        under("::!", refused("a mark alone in the root", m(&[]), 3, 0)),
+        under("crate::!::a", refused("a mark alone in the root's base", m(&[]), 3, 0)),
+        under("crate::", refused("no name in root and card", of_type("::a::!"), 3, 0)),
+        under(
+            "crate::!!",
+            accepted(
+                "two marks in the root",
+                of_type("crate::!!::m::X"),
+                m(&[with_type(short("crate::!!::m::X"))]),
+            ),
+        ),
+        Stated { words: WORDS - 1, ..refused("too few words", of_type("::a::!"), 1, 0) },
+        refused(
+            "too long a card",
+            m(&[with_type(ty("::a::!")), nested(extern_module("a".repeat(MOST_CARD)))]),
+            2,
+            0,
+        ),
+        under("crate::a::a::a::a::a::a::a::a", refused("a bad root", of_type("::a::!"), 3, 0)),
+        refused(
+            "a full table",
+            m(&[&pairs[..], &[with_type(ty("::a::!"))]].concat()),
+            11,
+            after_a + of_pairs,
+        ),
+        Stated { out: 0, ..refused("no space", of_type("::a::!"), 11, after_a) },
+        Stated { lent: Some(0), ..refused("a short list", of_type("::a::!"), 11, after_a) },
+        Stated { out: 0, lent: Some(1), ..refused("no space, a short list", value("::a::"), 11, in_value) },
     ]
 }
 

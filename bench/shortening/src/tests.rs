@@ -18,9 +18,9 @@ fn shorten(operation: Operation, card: &[u8], root: &[u8], lent: usize, words: u
     });
     assert_eq!(first, second);
     let (answer, output) = &first;
-    // Reading alone refuses by 1 to 7, as they do, and goes no further.
+    // Reading alone refuses by 1 to 7 and 11, as they do, and goes no further.
     let read = reader::admit(card, root, words);
-    assert_eq!(read.err(), answer.err().filter(|&(number, _)| number <= 7));
+    assert_eq!(read.err(), answer.err().filter(|&(number, _)| matches!(number, 1..=7 | 11)));
     let places = answer.map_or(vec![], |_| places(card, output));
     let most = places.len();
     let bytes = answer.map_or(lent, |length| length + 3);
@@ -196,14 +196,19 @@ fn proved_cards_by(operation: Operation) {
     assert_eq!(answer(&[], 100), Err((4, 0)));
 }
 
-/// Limits, wrong ports, and what tells the operations apart.
+/// Limits, wrong ports, what tells the operations apart, and paths without a name.
 #[test]
 fn stated_cards() {
     for operation in Operation::BOTH {
-        let cases = [stated::limits(), stated::wrong_ports(operation), stated::told_apart(operation)];
+        let told_apart = stated::told_apart(operation);
+        let cases = [stated::limits(), stated::wrong_ports(operation), told_apart, stated::nameless()];
         for case in cases.into_iter().flatten() {
-            let given = shorten(operation, &case.card, &path("crate"), case.out, case.words);
+            let given = shorten(operation, &case.card, &case.root, case.out, case.words);
             assert_eq!(given, (case.answer, case.output), "{}", case.what);
+            if let Some(lent) = case.lent {
+                let listed = with_list(operation, &case.card, &case.root, case.out, case.words, lent);
+                assert_eq!(listed.0.map(|(length, _)| length), case.answer, "{}", case.what);
+            }
         }
     }
 }
@@ -368,7 +373,7 @@ fn random_cards() {
         }
         differ += (old != straight) as usize;
     }
-    assert_eq!(numbers, (0..=8).collect());
+    assert_eq!(numbers, (0..=8).chain([11]).collect());
     let all = [0x01..=0x03, 0x10..=0x13, 0x20..=0x38, 0x40..=0x5E, 0x60..=0x6A, 0x70..=0x86];
     assert_eq!(kinds, all.into_iter().flatten().collect());
     assert!(differ > 300, "{differ}");
@@ -376,7 +381,11 @@ fn random_cards() {
 
 /// Path types under Global, each with a short name of its own: few bytes for much that is put in.
 fn dense() -> Bytes {
-    let name = |i: usize| if i < 256 { vec![i as u8] } else { vec![i as u8, 0] };
+    // The mark alone is no name.
+    let name = |i: usize| match u8::try_from(i) {
+        Ok(byte) if byte != b'!' => vec![byte],
+        _ => (i as u16).to_le_bytes().to_vec(),
+    };
     let types: Vec<Bytes> = (0..512).map(|i| record(0x2D, &[select(path(""), name(i))])).collect();
     module("", &[only_types(&types)])
 }

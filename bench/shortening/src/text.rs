@@ -1,5 +1,6 @@
 //! Bytes as hexadecimal digits, `-` for none, and the vectors.
-use crate::{Answer, Operation};
+use crate::{Answer, Operation, LANDED};
+use std::collections::HashMap;
 
 pub fn bytes(digits: &str) -> Option<Vec<u8>> {
     if digits == "-" {
@@ -55,15 +56,25 @@ fn without_list(call: &mut Fields, answer: &mut Fields) -> Option<Vector> {
     Some(Vector { operation: None, root, card, out, words, lent: None, answer, output, list: Vec::new() })
 }
 
+/// A line that names no operation, or one that begins with it. Nothing else may stand there, nor a list
+/// of counts, which is not known here.
 fn vector(line: &str) -> Option<Vector> {
-    let (call, answer) = line.split_once(" = ")?;
-    without_list(&mut call.split(' '), &mut answer.split(' '))
+    let named = Operation::BOTH.into_iter().find_map(|operation| {
+        let rest = line.strip_prefix(operation.word())?.strip_prefix(' ')?;
+        Some((operation, rest))
+    });
+    let vector = match named {
+        Some((operation, rest)) => listed(operation, rest)?,
+        None => {
+            let (call, answer) = line.split_once(" = ")?;
+            without_list(&mut call.split(' '), &mut answer.split(' '))?
+        }
+    };
+    (format!("{} = {}", vector.question(), vector.answer()) == line).then_some(vector)
 }
 
-/// A line that begins with its operation.
-fn listed(line: &str) -> Option<Vector> {
-    let (word, rest) = line.split_once(' ')?;
-    let operation = Operation::BOTH.into_iter().find(|operation| operation.word() == word)?;
+/// What stands in a line behind its operation.
+fn listed(operation: Operation, rest: &str) -> Option<Vector> {
     let (call, answer) = rest.split_once(" = ")?;
     let (mut call, mut answer) = (call.split(' '), answer.split(' '));
     let mut vector = without_list(&mut call, &mut answer)?;
@@ -79,8 +90,7 @@ fn listed(line: &str) -> Option<Vector> {
             (Some(_), entries, list) => entries_of(entries.parse().ok()?, list)?,
         };
     }
-    // Nothing else may stand there, nor a list of counts, which is not known here.
-    (format!("{} = {}", vector.question(), vector.answer()) == line).then_some(vector)
+    Some(vector)
 }
 
 /// The words of so many entries, with commas, `-` for none.
@@ -92,29 +102,91 @@ fn entries_of(entries: usize, list: &str) -> Option<Vec<u32>> {
     (words.len() == 2 * entries).then_some(words)
 }
 
-fn of_file(name: &str, of_line: fn(&str) -> Option<Vector>, form: &str) -> Result<Vec<Vector>, String> {
-    let text = std::fs::read_to_string(name).map_err(|e| format!("{name} can't be read: {e}"))?;
-    text.lines()
-        .enumerate()
-        .map(|(i, line)| of_line(line).ok_or_else(|| format!("{name}: line {} is no case: {form}", i + 1)))
-        .collect()
+/// A file of vectors, each with its latest answer.
+pub struct File {
+    pub name: String,
+    /// Whose vectors these are: a request's, or document 01's with 0.
+    pub request: u32,
+    pub vectors: Vec<Vector>,
+    /// How many have another answer than they had in this file.
+    pub changed: usize,
 }
 
-/// The vectors of a file, or what is wrong with it.
-pub fn vectors(name: &str) -> Result<Vec<Vector>, String> {
-    of_file(name, vector, "ROOT CARD OUTLEN WORKLEN = ANSWER")
+/// A file as it was read.
+struct Source {
+    request: u32,
+    /// Whether its lines replace earlier ones.
+    replaces: bool,
+    name: String,
+    text: String,
 }
 
-const OLD: &str = "old ROOT CARD OUTLEN WORKLEN PLACES = ANSWER";
-
-/// Those with lists of places.
-pub fn places(name: &str) -> Result<Vec<Vector>, String> {
-    of_file(name, |line| listed(line).filter(|v| v.operation == Some(Operation::Upstream)), OLD)
+/// The request that a file of vectors came with, and whether its lines replace earlier ones.
+fn part(name: &str) -> Option<(u32, bool)> {
+    let stem = name.strip_suffix(".txt")?;
+    if stem == "base" {
+        return Some((0, false));
+    }
+    match stem.split_once('-')? {
+        ("base" | "changed", request) => Some((request.parse().ok()?, true)),
+        (request, _) => Some((request.parse().ok()?, false)),
+    }
 }
 
-/// Those of straight shortening, among which are such with lists of places.
-pub fn straight(name: &str) -> Result<Vec<Vector>, String> {
-    of_file(name, listed, &format!("straight ROOT CARD OUTLEN WORKLEN PLACES x = ANSWER or {OLD}"))
+/// The files of a folder of vectors up to the last request that is answered here: base.txt and each
+/// NN-name.txt. A line of base-N.txt or changed-N.txt replaces an earlier one that asks the same.
+pub fn folder(folder: &str) -> Result<Vec<File>, String> {
+    let unread = |name: &str, e| format!("{name} can't be read: {e}");
+    let entries = std::fs::read_dir(folder).and_then(Iterator::collect::<Result<Vec<_>, _>>);
+    let names = entries.map_err(|e| unread(folder, e))?;
+    let names = names.into_iter().filter_map(|entry| entry.file_name().into_string().ok());
+    let mut sources = Vec::new();
+    for name in names {
+        let Some((request, replaces)) = part(&name).filter(|&(request, _)| request <= LANDED) else {
+            continue;
+        };
+        let file = format!("{folder}/{name}");
+        let text = std::fs::read_to_string(&file).map_err(|e| unread(&file, e))?;
+        sources.push(Source { request, replaces, name, text });
+    }
+    // Of a request first what replaces, since that is of earlier ones.
+    sources.sort_by(|a, b| (a.request, b.replaces, &a.name).cmp(&(b.request, a.replaces, &b.name)));
+    match sources.first() {
+        Some(first) if first.request == 0 => latest(sources),
+        _ => Err(format!("{folder} has no base.txt")),
+    }
+}
+
+/// The files, these being all in their order.
+fn latest(sources: Vec<Source>) -> Result<Vec<File>, String> {
+    const FORMS: &str = "ROOT CARD OUTLEN WORKLEN = ANSWER, \
+        old ROOT CARD OUTLEN WORKLEN PLACES = ANSWER or \
+        straight ROOT CARD OUTLEN WORKLEN PLACES x = ANSWER";
+    let mut answers: HashMap<String, Vector> = HashMap::new();
+    let mut files = Vec::new();
+    for Source { request, replaces, name, text } in sources {
+        let mut vectors = Vec::new();
+        for (i, line) in text.lines().enumerate() {
+            let wrong = |how| Err(format!("{name}: line {} {how}", i + 1));
+            let Some(vector) = vector(line) else { return wrong(format!("is no case: {FORMS}")) };
+            let earlier = answers.insert(vector.question(), vector.clone());
+            if replaces && earlier.is_none() {
+                return wrong("replaces no earlier line".to_string());
+            }
+            vectors.push(vector);
+        }
+        if !replaces {
+            files.push(File { name, request, vectors, changed: 0 });
+        }
+    }
+    for file in &mut files {
+        for vector in &mut file.vectors {
+            let answer = &answers[&vector.question()];
+            file.changed += (answer.answer() != vector.answer()) as usize;
+            vector.clone_from(answer);
+        }
+    }
+    Ok(files)
 }
 
 /// A case as a line of the vectors has it, ahead of ` = `.
@@ -165,7 +237,7 @@ mod tests {
     const CALL: &str = "020000001100 09000000610003000000010061 13 2048";
 
     fn line(rest: &str) -> Option<Vector> {
-        listed(&format!("old {CALL} {rest}"))
+        vector(&format!("old {CALL} {rest}"))
     }
 
     #[test]
@@ -184,7 +256,7 @@ mod tests {
 
     #[test]
     fn straight_lines() {
-        let line = |rest: &str| listed(&format!("straight {CALL} {rest}"));
+        let line = |rest: &str| vector(&format!("straight {CALL} {rest}"));
         let v = line("7 x = 0 3 010203 2 31,3,87,1 x x").unwrap();
         assert_eq!((v.operation, v.lent, v.answer), (Some(Operation::Straight), Some(7), Ok(3)));
         assert_eq!((v.output, v.list), (vec![1, 2, 3], vec![31, 3, 87, 1]));
@@ -220,8 +292,55 @@ mod tests {
         ] {
             assert!(line(rest).is_none(), "{rest}");
         }
-        assert!(vector(&format!("old {CALL} x = 10 0")).is_none());
-        assert!(listed(&format!("{CALL} = 9 0")).is_none());
-        assert!(listed(&format!("new {CALL} x = 9 0")).is_none());
+        assert!(vector(&format!("{CALL} = 9 0")).is_some());
+        assert!(vector(&format!("{CALL} x = 9 0")).is_none());
+        assert!(vector(&format!("{CALL} = 9 0 0")).is_none());
+        assert!(vector(&format!("new {CALL} x = 9 0")).is_none());
+    }
+
+    #[test]
+    fn parts() {
+        assert_eq!(part("base.txt"), Some((0, false)));
+        assert_eq!(part("01-places.txt"), Some((1, false)));
+        assert_eq!(part("base-4.txt"), Some((4, true)));
+        assert_eq!(part("changed-12.txt"), Some((12, true)));
+        for other in ["README.md", "base", "changed.txt", "base-x.txt", "places.txt", "a-1.txt"] {
+            assert_eq!(part(other), None, "{other}");
+        }
+    }
+
+    /// A line holds as the last file says, wherever it stands, and one that replaces must find what it
+    /// replaces.
+    #[test]
+    fn latest_answers() {
+        let text = |request, replaces, name: &str, lines: &[String]| {
+            let (name, text) = (name.to_string(), lines.join("\n"));
+            Source { request, replaces, name, text }
+        };
+        let plain = |answer: &str| format!("{CALL} = {answer}");
+        let old = |answer: &str| format!("old {CALL} x = {answer}");
+        let texts = || {
+            vec![
+                text(0, false, "base.txt", &[plain("9 0")]),
+                text(1, false, "01-places.txt", &[old("9 0")]),
+                text(2, false, "02-straight.txt", &[old("9 0"), old("9 0").replace("2048", "4096")]),
+                text(4, true, "base-4.txt", &[plain("11 7")]),
+                text(4, true, "changed-4.txt", &[old("11 8")]),
+                text(5, true, "changed-5.txt", &[old("3 0")]),
+            ]
+        };
+        let files = latest(texts()).unwrap();
+        let seen: Vec<_> = files.iter().map(|f| (&f.name[..2], f.request, f.changed)).collect();
+        assert_eq!(seen, [("ba", 0, 1), ("01", 1, 1), ("02", 2, 1)]);
+        let answers: Vec<_> = files.iter().flat_map(|f| &f.vectors).map(|v| v.answer.unwrap_err()).collect();
+        assert_eq!(answers, [(11, 7), (3, 0), (3, 0), (9, 0)]);
+        let said = |more| latest(texts().into_iter().chain([more]).collect()).err().unwrap_or_default();
+        let new = [plain("3 0"), plain("11 7").replace(" 13 ", " 14 ")];
+        assert_eq!(said(text(5, false, "05-limit.txt", &new)), "");
+        let none = "base-5.txt: line 2 replaces no earlier line";
+        assert_eq!(said(text(5, true, "base-5.txt", &new)), none);
+        assert!(
+            said(text(5, true, "base-5.txt", &["?".to_string()])).starts_with("base-5.txt: line 1 is no ")
+        );
     }
 }

@@ -1,4 +1,4 @@
-// What is said of a call before its card is walked: the first of refusals 1 to 7, or sound. No work word is touched.
+// What is said of a call before its card is walked: the first of refusals 1 to 7 and 11, or sound. No work word is touched.
 use answers::Answer;
 use answers::Verdict;
 ghost use mathlib.Core.Path.{_≡_};

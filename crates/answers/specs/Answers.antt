@@ -1,8 +1,8 @@
--- 01, "The console's answers": the number of each answer, its length or place, and both in one number. Assumes nothing: these are definitions.
+-- 01, "The console's answers", and the answers that 02 adds: the number of each, its length or place, and both in one number. Assumes nothing: these are definitions.
 use Prim.Native.Nat.{ℕ, _+_, _*_, _%_}
 use Rattle.answers.specs.declared.Answer.{Answer}
 use Rattle.answers.specs.declared.Answer.the-variants.{Shortened, ShortWork, LongCard, BadRoot, ShortRecord, WrongKind, TooDeep}
-use Rattle.answers.specs.declared.Answer.the-variants.{LeftOver, FullTable, NoSpace, ShortList}
+use Rattle.answers.specs.declared.Answer.the-variants.{LeftOver, FullTable, NoSpace, ShortList, NoName}
 
 abbrev pub number : Answer → ℕ
 number (Shortened length) = 0
@@ -16,6 +16,7 @@ number (LeftOver place) = 7
 number (FullTable place) = 8
 number NoSpace = 9
 number ShortList = 10
+number (NoName place) = 11
 
 -- the output's length, or the place
 abbrev pub value : Answer → ℕ
@@ -30,6 +31,7 @@ value (LeftOver place) = place
 value (FullTable place) = place
 value NoSpace = 0
 value ShortList = 0
+value (NoName place) = place
 
 -- one number of 64 bits: the number times 2 ^ 32, plus the length or place, whose lower 32 bits alone count
 unfoldable pub packed : Answer → ℕ

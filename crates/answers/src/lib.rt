@@ -8,7 +8,7 @@ pub enum Answer {
     ShortWork,
     LongCard,
     BadRoot,
-    // these, to FullTable, with the place; the others at place 0
+    // these, to FullTable, and NoName with the place; the others at place 0
     ShortRecord(usize),
     WrongKind(usize),
     TooDeep(usize),
@@ -16,9 +16,10 @@ pub enum Answer {
     FullTable(usize),
     NoSpace,
     ShortList,
+    NoName(usize),
 }
 
-// What reading says of bytes; it refuses by ShortRecord, WrongKind, TooDeep and LeftOver alone.
+// What reading says of bytes; it refuses by ShortRecord, WrongKind, TooDeep, LeftOver and NoName alone.
 pub enum Verdict {
     Sound,
     Refused(Answer),
@@ -40,6 +41,7 @@ pub fn number(a: Answer) -> usize
         Answer::FullTable(_) => 8,
         Answer::NoSpace => 9,
         Answer::ShortList => 10,
+        Answer::NoName(_) => 11,
     }
 }
 
@@ -59,6 +61,7 @@ pub fn value(a: Answer) -> usize
         Answer::FullTable(p) => p,
         Answer::NoSpace => 0,
         Answer::ShortList => 0,
+        Answer::NoName(p) => p,
     }
 }
 

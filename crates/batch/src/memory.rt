@@ -60,7 +60,8 @@ fn are_zero(work: &[u32]) -> bool {
     true
 }
 
-// Whether what is lent is as an answer promises: a refusal leaves the out buffer, 1 to 7 leave the work words too, and else these are zero.
+// Whether what is lent is as an answer promises: a refusal leaves the out buffer, 1 to 7 and 11 leave the work words too, and else these
+// are zero.
 pub fn is_kept(a: Answer, out: &[u8], work: &[u32]) -> bool {
     match a {
         Answer::Shortened(n) => n <= out.len() && is_left(out, n) && are_zero(work),

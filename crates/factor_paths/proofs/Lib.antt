@@ -6,6 +6,7 @@ pub mod Tidy
 pub mod Wraps
 pub mod Walks
 pub mod Modules
+pub mod Named
 pub mod Uses
 pub mod Shapes
 pub mod SameBytes

@@ -1,15 +1,16 @@
 -- The uses put ahead of a module: what looking a name up in them gives, what they are, and the names that they bear. Assumes nothing.
-use mathlib.Core.Path.{_≡_, refl, sym, ap, _∙_}
+use mathlib.Core.Path.{_≡_, refl, sym, _∙_}
 use mathlib.Core.List.{List, [], _∷_, _++_}
-use mathlib.Core.Bool.{Bool, true, false, not, _||_, or-true, or-false, or-assoc, and-eq-true-iff, false≢true, true≢false}
+use mathlib.Core.Bool.{true, false, not, _||_, or-true, or-false, or-assoc, and-eq-true-iff, false≢true, true≢false}
 use mathlib.Core.Option.{none, some}
 use Prim.Native.Nat.{ℕ}
 use native.Mathlib.Omega.{arith}
+use lib.ListN.{length}
+use lib.Dec.{ltb}
 use borrow.Author.Tests.{not-true}
-use Rattle.wire.proofs.Numbers.{sameBytes-true}
 use Rattle.records.specs.Record.{Record, Records, _▸_, nth}
 use Rattle.rast.specs.Path.{Name, Path, MSel}
-use Rattle.rast.specs.Operation.{Operation, shortening}
+use Rattle.rast.specs.Operation.{Operation}
 use Rattle.rast.specs.Mod.{Mod·Fold}
 use Rattle.rast.specs.Visitor.{VisitModMapping, VisitMod}
 use Rattle.rast.proofs.Tests.{by-test, by-option, there-is}
@@ -23,6 +24,7 @@ use Rattle.factor_paths.proofs.Maps.{namesOf, Apart, get-same}
 use Rattle.factor_paths.proofs.Mappings.{add-keys, holds, add-holds, added-holds}
 use Rattle.factor_paths.proofs.Visits.{type-keeps, expr-keeps, declaration-keeps, mappings-good}
 use Rattle.factor_paths.proofs.Final.{final-from, final-self}
+use Rattle.factor_paths.proofs.Named.{Marks, Sure, replaced-filled}
 use Rattle.factor_paths.specs.LookUp.{unmarkedAll, namesBorne, UseDecls, lookUp, collected, own, has, different}
 
 module _ (op : Operation) where
@@ -33,15 +35,17 @@ module _ (op : Operation) where
   with-key Q k ks r S rest more =
       by-option (get op k r) (λ o. rw o rest) (λ q o. by-test (equal op q S) (λ s. rw (o, s) rest) (λ s. rw (o, s) (more q o s)))
 
-  uses-are : (keys : List Name) (r : FinalReplacement) (S : Path) → UseDecls (ToUseStatements op keys r S)
+  uses-are : (keys : List Name) (r : FinalReplacement) (S : Path)
+      → ((k : Name) (q : Path) → get op k r ≡ some q → equal op q S ≡ false → ltb 0 (length k) ≡ true) → UseDecls (ToUseStatements op keys r S)
   unfolding UseDecls ToUseStatements nth
-  uses-are [] r S = tt
-  uses-are (k ∷ ks) r S = with-key UseDecls k ks r S (uses-are ks r S) (λ q o s. (refl, refl, uses-are ks r S))
+  uses-are [] r S h = tt
+  uses-are (k ∷ ks) r S h = with-key UseDecls k ks r S (uses-are ks r S h) (λ q o s. (refl, refl, h k q o s, uses-are ks r S h))
 
-  -- what a module puts ahead of its body are UseDecls whose paths end in names
-  pub imports-are : (m : Record) (SelfPath : Path) → UseDecls (imports op m SelfPath)
+  -- what a module without nameless paths puts ahead of its body are UseDecls whose paths end in names
+  pub imports-are : Names op → Marks op → Chooses op → (m : Record) (SelfPath : Path) → Sure m → UseDecls (imports op m SelfPath)
   unfolding imports
-  imports-are m SelfPath = uses-are (mappings op m SelfPath .keys) (pathsToRemove op m SelfPath) SelfPath
+  imports-are N alike C m SelfPath a =
+      uses-are (mappings op m SelfPath .keys) (pathsToRemove op m SelfPath) SelfPath (replaced-filled op N alike SelfPath C m a)
 
   -- the names of the one mapping have the path among their paths in the other
   abbrev Owned : Path → Mapping → Mapping → Type 0
@@ -141,19 +145,12 @@ module _ (op : Operation) where
         (bear-different (pathsToRemove op m SelfPath) SelfPath (mappings op m SelfPath .provenance) (good .apart) (own op m SelfPath)
         (λ k h t. absurd (true≢false (sym (final-self op N C k (mappings op m SelfPath .provenance) SelfPath (good .apart) (owned SelfPath m k h)) ∙ t))))
 
--- names that are the same end alike in '!'
-abbrev pub Marks : Operation → Type 0
-Marks op = (a b : Name) → op .sameName a b ≡ true → marked a ≡ marked b
-
-pub shortening-marks : (again : Bool) → Marks (shortening again)
-shortening-marks again a b e = ap marked (sameBytes-true a b e)
-
 unmarked-has : (op : Operation) → Marks op → (n : Name) (ns : List Name) → has op n ns ≡ true → unmarkedAll ns ≡ true → marked n ≡ false
 unfolding has unmarkedAll
 unmarked-has op alike n [] h u = absurd (false≢true h)
 unmarked-has op alike n (m ∷ ms) h u =
     let v = and-eq-true-iff (not (marked m)) (unmarkedAll ms) .0 u in
-    by-test (op .sameName n m) (λ t. alike n m t ∙ not-true (marked m) (v .0)) (λ t. unmarked-has op alike n ms (rw t at h) (v .1))
+    by-test (op .sameName n m) (λ t. alike n m t .0 ∙ not-true (marked m) (v .0)) (λ t. unmarked-has op alike n ms (rw t at h) (v .1))
 
 -- a name that is replaced does not end in '!' where no collected name does
 pub replaced-unmarked : (op : Operation) → Names op → Marks op → (m : Record) (SelfPath : Path) (n : Name) (b : Path)

@@ -2,6 +2,8 @@
 use mathlib.Core.Path.{_≡_}
 use mathlib.Core.List.{List, [], _∷_}
 use mathlib.Core.Bool.{Bool, true, false, not, _&&_, _||_, cond}
+use lib.ListN.{length}
+use lib.Dec.{ltb}
 use Rattle.records.specs.Record.{Record, Records, leaf, nil, _▸_, kind, text, field, is, update}
 use Rattle.rast.specs.Path.{Name, Path, MSel}
 use Rattle.rast.specs.Operation.{Operation}
@@ -24,10 +26,10 @@ bare n = cond (marked n) (unmarked n) n
 abbrev pub barePath : Path → Path
 barePath p = cond (is 0x13 p) (update 1 (λ n. leaf 0x01 (bare (text n))) p) p
 
--- each is a UseDecl, and its path ends in a name
+-- each is a UseDecl, and its path ends in a name that is not empty (02, request 4)
 unfoldable pub UseDecls : Records → Type 0
 UseDecls nil = Unit {0}
-UseDecls (d ▸ uses) = (kind d ≡ 0x6A) × (kind (pathOf d) ≡ 0x13) × UseDecls uses
+UseDecls (d ▸ uses) = (kind d ≡ 0x6A) × (kind (pathOf d) ≡ 0x13) × (ltb 0 (length (borne d)) ≡ true) × UseDecls uses
 
 -- no name ends in '!'
 unfoldable pub unmarkedAll : List Name → Bool
@@ -41,8 +43,7 @@ namesBorne (d ▸ uses) = borne d ∷ namesBorne uses
 module _ (op : Operation) where
   unfoldable pub lookUp : Records → Path → Name → Path
   lookUp nil prefix name = MSel prefix name
-  lookUp (d ▸ uses) prefix name =
-      cond (is 0x13 (pathOf d) && op .sameName (borne d) name) (pathOf d) (lookUp uses prefix name)
+  lookUp (d ▸ uses) prefix name = cond (op .sameName (borne d) name) (pathOf d) (lookUp uses prefix name)
 
   -- the names that PathsVisitor adds for a module, and those among them that it adds for a declaration and not for a path in it
   abbrev pub collected : Record → Path → List Name

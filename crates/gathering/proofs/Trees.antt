@@ -78,7 +78,7 @@ span-there {s} {o} {r} p = let e : o + length (encode r) - o ≡ length (encode 
 alone-kind : (r : Record) → Canonical r → kindOf (encode r) ≡ kind r
 alone-kind r h = ap kindOf (sym (append-nil (encode r))) ∙ encode-kind r [] h
 
--- in a card that is short enough a name stands at the lower half of its place: only an empty one can stand past a half word
+-- in a card that is short enough a name stands at the lower half of its place: only an empty one, a declaration's own, can stand past a half word
 half-place : (card : Bytes) (at : ℕ) (n : Bytes) → length card ≤ 65536 → take (length n) (drop at card) ≡ n → take (length n) (drop (at % 65536) card) ≡ n
 half-place card at [] l e = refl
 half-place card at (x ∷ n) l e =

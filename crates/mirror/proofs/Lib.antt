@@ -12,4 +12,6 @@ pub mod Types
 pub mod Exprs
 pub mod Decls
 pub mod Mods
+pub mod Fits
+pub mod Allowed
 pub mod Cards

@@ -11,7 +11,7 @@ use borrow.Author.Tests.{ltb-false, leb-true}
 use Rattle.answers.specs.Answers.{number, value}
 use Rattle.answers.specs.declared.Answer.{Answer}
 use Rattle.answers.specs.declared.Answer.the-variants.{Shortened, ShortWork, LongCard, BadRoot, ShortRecord, WrongKind}
-use Rattle.answers.specs.declared.Answer.the-variants.{TooDeep, LeftOver, FullTable, NoSpace, ShortList}
+use Rattle.answers.specs.declared.Answer.the-variants.{TooDeep, LeftOver, FullTable, NoSpace, ShortList, NoName}
 use Rattle.answers.specs.declared.Verdict.{Verdict}
 use Rattle.answers.specs.declared.Verdict.the-variants.{Sound, Refused}
 use Rattle.wire.specs.Numbers.{Bytes, AreBytes}
@@ -61,6 +61,7 @@ faulty (LeftOver n) e z = omega arith
 faulty (FullTable n) e z = absurd (false≢true e)
 faulty NoSpace e z = absurd (false≢true e)
 faulty ShortList e z = absurd (false≢true e)
+faulty (NoName n) e z = omega arith
 
 -- nor is one by which a card is not admitted
 pub refused-number : (op : Operation) (card root : Bytes) (words : ℕ) (a : Answer) → admitted op card root words ≡ Refused a → number a ≡ 0 → ⊥

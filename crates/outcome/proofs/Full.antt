@@ -177,7 +177,7 @@ module _ (op : Operation) (most : ℕ) where
       none-full n (fieldAt (j .0) 0 (nth i (children (field 3 m)))) (d .0) (let x = b .1 in let y = d .1 in omega arith) (rw t at (j .1)) k r)
       ⨾ (λ g. absurd (extern-body i m g t))) f
 
--- 1 to 7 are not 8
+-- 1 to 7 and 11 are not 8
 admitted-not-full : (op : Operation) (card root : Bytes) (words place : ℕ) → admitted op card root words ≡ Refused (FullTable place) → ⊥
 unfolding admitted
 admitted-not-full op card root words place h =

@@ -31,7 +31,7 @@ isSound (Refused a) = false
 abbrev pub goodRoot : Operation → Bytes → Bool
 goodRoot op root = leb (length root) (op .mostRootBytes) && isSound (reading (op .rootDepth) path root)
 
--- 1, 2 and 3, then 4 to 7
+-- 1, 2 and 3, then 4 to 7 and 11
 module _ (op : Operation) (card root : Bytes) (words : ℕ) where
   unfoldable pub admitted : Verdict
   admitted =

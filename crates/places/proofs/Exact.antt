@@ -62,7 +62,7 @@ unfolding UseDecls first nth count
 use-kind n c zero h l k = absurd (omega (arith, l))
 use-kind n nil (suc m) h l k = absurd (omega (arith, k))
 use-kind zero (r ▸ c) (suc m) h l k = h .0
-use-kind (suc n) (r ▸ c) (suc m) h l k = use-kind n c m (h .2) (omega (arith, l)) (omega (arith, k))
+use-kind (suc n) (r ▸ c) (suc m) h l k = use-kind n c m (h .3) (omega (arith, l)) (omega (arith, k))
 
 ahead-most : (n : ℕ) (this that : Record) → n < ahead this that → n < count (children that) - count (children this)
 ahead-most n (leaf k b) that l = absurd (omega (arith, l))

@@ -21,7 +21,7 @@ use Rattle.rast.proofs.Names.{shortening-names}
 use Rattle.rast.proofs.Chosen.{shortening-chooses}
 use Rattle.rast.proofs.Tests.{by-test}
 use Rattle.factor_paths.specs.Apply.{apply}
-use Rattle.factor_paths.proofs.Uses.{shortening-marks}
+use Rattle.factor_paths.proofs.Named.{shortening-marks}
 use Rattle.factor_paths.proofs.Shapes.{apply-canonical}
 use Rattle.size.proofs.Bound.{card-most}
 use Rattle.outcome.specs.FullTable.{fullTable}

@@ -18,7 +18,7 @@ use Rattle.rast.specs.Operation.{Operation, shortening}
 use Rattle.rast.proofs.Names.{Names, shortening-names}
 use Rattle.rast.proofs.Chosen.{Chooses, shortening-chooses}
 use Rattle.factor_paths.specs.Apply.{apply}
-use Rattle.factor_paths.proofs.Uses.{Marks, shortening-marks}
+use Rattle.factor_paths.proofs.Named.{Marks, shortening-marks}
 use Rattle.factor_paths.proofs.Shapes.{apply-read}
 use Rattle.size.proofs.Bound.{output-small}
 use Rattle.outcome.specs.Outcome.{shorten}

@@ -24,7 +24,8 @@ use Rattle.factor_paths.proofs.Tidy.{declKind, decls-closed, fits-paths}
 use Rattle.factor_paths.proofs.Modules.{ModFields, mod-fields, module-walk, extern-walk}
 use Rattle.factor_paths.specs.LookUp.{collected}
 use Rattle.points.specs.Points.{Module, Ahead, Point, Points}
-use Rattle.factor_paths.proofs.Uses.{Marks, imports-are, imports-different}
+use Rattle.factor_paths.proofs.Named.{Marks, Sure, fits-sure}
+use Rattle.factor_paths.proofs.Uses.{imports-are, imports-different}
 use Rattle.points.proofs.Walked.{same-node, point-self, walk-point}
 
 -- how many, and which, are put ahead
@@ -54,7 +55,7 @@ ahead-count f c d = rw (count-append c (mapAll f d), count-map f d) (omega arith
 -- a record that stands at some kinds stands at others that hold its kind
 pub narrow : (r : Record) (from to from′ to′ : ℕ) → Fits r (kinds from to) → stands (kinds from′ to′) (kind r) ≡ true → Fits r (kinds from′ to′)
 unfolding Fits contentAt
-narrow (leaf k b) from to from′ to′ f e = (e, f .1)
+narrow (leaf k b) from to from′ to′ f e = (e, f .1, refl)
 narrow (node k c) from to from′ to′ f e = (e, f .1)
 
 -- a record of one kind among some, and one of the others
@@ -104,16 +105,16 @@ module _ (op : Operation) (N : Names op) (C : Chooses op) (alike : Marks op) whe
 
   -- a Mod, by its fields
   fields-point : (n : ℕ) → Holds n → (around : Module) (d a t : Record) (c : Records) → Fits d (one 0x01) → Fits a (one 0x03) → Fits t (one 0x01)
-      → FitsAll c (any (kinds 0x62 0x6A)) → deepAll c ≤ n →
+      → FitsAll c (any (kinds 0x62 0x6A)) → deepAll c ≤ n → Sure (node 0x60 (d ▸ a ▸ t ▸ node 0x02 c ▸ nil)) →
       let m : Record = node 0x60 (d ▸ a ▸ t ▸ node 0x02 c ▸ nil) in
       let p : Path = around .inner (nameOf m) in
       Point op around m (node 0x60 (d ▸ a ▸ t ▸ node 0x02 (imports op m p ▸▸ mapAll (walkDecl op (pathsToRemove op m p) (applyPrefix op n) p) c) ▸ nil))
   unfolding Point nth setNth
-  fields-point n inside around d a t c hd ha ht hc le =
+  fields-point n inside around d a t c hd ha ht hc le sure =
       subst₂ Q (sym (ap (λ k. first k (us ▸▸ mapAll f c)) (ahead-count f us c) ∙ first-append us (mapAll f c)))
       (sym (ap (λ k. skip k (us ▸▸ mapAll f c)) (ahead-count f us c) ∙ skip-append us (mapAll f c))) (
         refl,
-        record { areUses = imports-are op m p; areDifferent = imports-different op N C m p },
+        record { areUses = imports-are op N alike C m p sure; areDifferent = imports-different op N C m p },
         (
           self d 0x01 refl hd,
           (
@@ -155,17 +156,17 @@ module _ (op : Operation) (N : Names op) (C : Chooses op) (alike : Marks op) whe
       by-kinds (λ m. Point op around m m) 0x61 0 (lit≤ tt) (λ t h. same-node op around 0x61 (t ▸ nil) (t ▸ nil) refl
       (point-self op around t (fits-of declKind decls-closed t (one 0x01) refl h), tt))
 
-  mod-point : (n : ℕ) → Holds n → (around : Module) (m : Record) → ModFields m → deep m ≤ suc n
+  mod-point : (n : ℕ) → Holds n → (around : Module) (m : Record) → ModFields m → Sure m → deep m ≤ suc n
       → Point op around m (applyPrefix op (suc n) m (around .inner (nameOf m)))
   unfolding deep
-  mod-point n inside around m h le =
+  mod-point n inside around m h sure le =
       subst (λ (q : Record). Point op around m q) (sym (module-walk op n (around .inner (nameOf m)) m h))
       (subst (λ (q : Record). Point op around q (node 0x60 (h .doc ▸ h .attributes ▸ h .named
       ▸ node 0x02 (imports op q (around .inner (nameOf q)) ▸▸ mapAll (walkDecl op (pathsToRemove op q (around .inner (nameOf q))) (applyPrefix op n)
       (around .inner (nameOf q))) (h .body)) ▸ nil))) (sym (h .is-mod))
       (fields-point n inside around (h .doc) (h .attributes) (h .named) (h .body) (h .doc-fits) (h .attributes-fits) (h .named-fits) (h .body-fits)
       (let g : deep (node 0x60 (h .doc ▸ h .attributes ▸ h .named ▸ node 0x02 (h .body) ▸ nil)) ≤ suc n = subst (λ (q : Record). deep q ≤ suc n) (h .is-mod)
-      le in omega arith)))
+      le in omega arith) (subst Sure (h .is-mod) sure)))
 
   -- THE LAW: the points of every module that fits, with all that is in it
   pub module-point : (n : ℕ) → Holds n
@@ -177,6 +178,6 @@ module _ (op : Operation) (N : Names op) (C : Chooses op) (alike : Marks op) whe
       none (node k c) h = omega arith
   module-point (suc n) around m f le =
       by-test (is 0x60 m)
-      (λ e. mod-point n (module-point n) around m (mod-fields m (at-one m 0x60 0x61 f e)) le)
+      (λ e. mod-point n (module-point n) around m (mod-fields m (at-one m 0x60 0x61 f e)) (fits-sure m f) le)
       (λ e. let x : Fits m (one 0x61) = after-one m 0x60 0x61 f e in
       subst (λ (q : Record). Point op around m q) (sym (extern-walk op (suc n) (around .inner (nameOf m)) m x)) (extern-point around m x))

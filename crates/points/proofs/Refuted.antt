@@ -110,6 +110,16 @@ no-decl : Refuted (made (decl 0x63 Y ▸ nil) (decl 0x63 X) (TypeFromPath (MSel 
 unfolding Holds
 no-decl h = let e = h .1 .areUses .0 in omega arith
 
+-- or bears no name
+no-name : Refuted (made (uses ▸▸ (useDecl (MSel Global []) ▸ nil)) (decl 0x63 X) (short (MSel Global B)))
+unfolding Holds
+no-name h = false≢true (h .1 .areUses .3 .2)
+
+-- or has for its path a record of another kind, which holds a name
+no-select : Refuted (made (uses ▸▸ (useDecl (node 0x5D (Global ▸ leaf 0x01 Y ▸ nil)) ▸ nil)) (decl 0x63 X) (short (MSel Global B)))
+unfolding Holds
+no-select h = let e = h .1 .areUses .3 .1 in omega arith
+
 -- another declaration's name, and another kind of declaration
 other-text : Refuted (made uses (decl 0x63 Y) (short (MSel Global B)))
 unfolding Holds

@@ -19,7 +19,8 @@ use Rattle.factor_paths.proofs.Tidy.{declKind, PathIn, Paths, PathsAll}
 use Rattle.factor_paths.proofs.Wraps.{deeper-suc, paths-walked, wrap-other, expr-other, or-left, or-right}
 use Rattle.factor_paths.specs.LookUp.{collected}
 use Rattle.points.specs.Points.{Module, elsewhere, meeting, Point, Points}
-use Rattle.factor_paths.proofs.Uses.{Marks, looks-up, replaced-unmarked}
+use Rattle.factor_paths.proofs.Named.{Marks}
+use Rattle.factor_paths.proofs.Uses.{looks-up, replaced-unmarked}
 
 -- two kinds that are the same, and no module's, meet elsewhere
 pub meeting-same : (k : ℕ) → eqb k 0x60 ≡ false → meeting k k ≡ elsewhere

@@ -1,4 +1,4 @@
--- P1 to P15 of document 01 and one card more, of the definitions: one claim over the table for each operation, by computation. Assumes nothing.
+-- P1 to P15 of document 01 and five cards more, of the definitions: one claim over the table for each operation, by computation. Assumes nothing.
 use mathlib.Core.Path.{_≡_, refl}
 use mathlib.Core.List.{map}
 use lib.ListN.{length}

@@ -57,7 +57,7 @@ unfolding Point UseDecls synonyms unmarkedAll namesBorne lookUp has different le
     VisitModDeclSingle replaces ReplaceTypeSingle ReplaceExprSingle PathSimplifier mappings pathsToRemove imports applyPrefix apply
 P3-points = (
   refl,
-  record { areUses = (refl, refl, tt); areDifferent = refl },
+  record { areUses = (refl, refl, refl, tt); areDifferent = refl },
   (
     (refl, refl),
     (
@@ -103,7 +103,7 @@ unfolding Point UseDecls synonyms unmarkedAll namesBorne lookUp has different le
     VisitModDeclSingle replaces ReplaceTypeSingle ReplaceExprSingle PathSimplifier mappings pathsToRemove imports applyPrefix apply
 P8-points = (
   refl,
-  record { areUses = (refl, refl, tt); areDifferent = refl },
+  record { areUses = (refl, refl, refl, tt); areDifferent = refl },
   (
     (refl, refl),
     (
@@ -169,7 +169,7 @@ P13-points = (
                 (
                   (
                     refl,
-                    record { areUses = (refl, refl, tt); areDifferent = refl },
+                    record { areUses = (refl, refl, refl, tt); areDifferent = refl },
                     (
                       (refl, refl),
                       (

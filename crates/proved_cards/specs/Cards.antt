@@ -1,10 +1,11 @@
--- 01, "Proved cards": P1 to P15 as a table, and what straight shortening (02, request 2) makes of them, with one card more. The root is crate, and a constant
+-- 01, "Proved cards": P1 to P15 as a table, and what straight shortening (02, request 2) makes of them, with one card more of that request and four of
+-- request 4. The root is crate, and a constant
 -- that has no value named has RawExpr("").
 use mathlib.Core.List.{List, [], _∷_, _++_}
-use mathlib.Core.Bool.{_&&_, cond}
+use mathlib.Core.Bool.{_&&_, _||_, cond}
 use Prim.Native.Nat.{ℕ, _+_, _-_, max}
 use lib.ListN.{length, replicate}
-use lib.Dec.{leb}
+use lib.Dec.{eqb, leb}
 use Rattle.answers.specs.Answers.{number, value}
 use Rattle.wire.specs.Numbers.{Bytes}
 use Rattle.records.specs.Record.{Record, Records, nil, _▸_, encode}
@@ -58,6 +59,9 @@ X = 88 ∷ []
 abbrev Y : Name
 Y = 89 ∷ []
 
+abbrev mark : Name
+mark = 33 ∷ []
+
 abbrev k1 : Name
 k1 = 107 ∷ 49 ∷ []
 
@@ -103,8 +107,11 @@ apart long r n s n′ s′ = record { card = encode r; long = long; room = max n
 abbrev unchanged : ℕ → Record → ProvedCard
 unchanged n r = accepted n n r r
 
+abbrev implOf : Name → Record
+implOf n = Mod m (ImplDecl (Impl (TypeFromPath (MSel Global n))) ▸ nil)
+
 abbrev pub P3-card : Record
-P3-card = Mod m (ImplDecl (Impl (TypeFromPath (MSel Global B))) ▸ nil)
+P3-card = implOf B
 
 abbrev pub P3-made : Record
 P3-made = Mod m (useDecl (MSel Global B) ▸ ImplDecl (Impl (short B (MSel Global B))) ▸ nil)
@@ -178,6 +185,12 @@ provedCards =
     -- P14: a Mod with no content; P15: P1's card and one byte more
     ∷ alike (2 ∷ 0 ∷ 0 ∷ 0 ∷ 0x60 ∷ 0 ∷ []) 6 40 (refuses 4 6)
     ∷ alike (P1-bytes ++ (0 ∷ [])) 14 40 (refuses 7 13)
+    -- 02, request 4: P3 with :: and with ::! for ::B; P8 with ::a::!! for ::a::rd!; a module and a struct without names
+    ∷ alike (encode (implOf [])) 79 137 (refuses 11 67)
+    ∷ alike (encode (implOf mark)) 80 137 (refuses 11 67)
+    ∷ accepted 108 134 (Mod m (constant k1 Bool′ (ExprFromPath (from a (mark ++ mark))) ▸ nil))
+    (Mod m (useDecl (from a mark) ▸ constant k1 Bool′ (Identifier (mark ++ mark)) ▸ nil))
+    ∷ unchanged 78 (Mod [] (struct [] nil ▸ nil))
     ∷ []
 
 -- the number, the length or place, and what the out buffer and the work words hold
@@ -193,12 +206,12 @@ seen op p =
     let o : Outcome = shorten op (p .card) (encode Crate) (replicate (p .room) 0xAA) (replicate 2048 5) in
     record { answers = number (o .answer); with = value (o .answer); out = o .out; work = o .work }
 
--- what is stated of a card with so many bytes lent: the output, and then what the out buffer held; the work words left after 1 to 7, and else zero
+-- what is stated of a card with so many bytes lent: the output, and then what the out buffer held; the work words left after 1 to 7 and 11, and else zero
 abbrev pub stated : ℕ → Answered → Seen
 stated room by =
     record {
       answers = by .answers;
       with = by .with;
       out = (by .output) ++ replicate (room - length (by .output)) 0xAA;
-      work = replicate 2048 (cond (leb 1 (by .answers) && leb (by .answers) 7) 5 0);
+      work = replicate 2048 (cond (leb 1 (by .answers) && leb (by .answers) 7 || eqb (by .answers) 11) 5 0);
     }

@@ -5,13 +5,13 @@ use Prim.Native.Nat.{ℕ, zero, suc, _+_, _-_, _<_}
 use native.Mathlib.Omega.{arith}
 use lib.ListN.{length}
 use Rattle.answers.specs.declared.Answer.{Answer}
-use Rattle.answers.specs.declared.Answer.the-variants.{ShortRecord, WrongKind, TooDeep}
+use Rattle.answers.specs.declared.Answer.the-variants.{ShortRecord, WrongKind, TooDeep, NoName}
 use Rattle.answers.specs.declared.Verdict.{Verdict}
 use Rattle.answers.specs.declared.Verdict.the-variants.{Sound, Refused}
 use Rattle.wire.specs.Numbers.{Bytes}
 use Rattle.records.specs.Record.{isLeaf, kindOf, contentOf, restOf}
 use Rattle.records.specs.Kinds.{Place, stands, ofBytes, contentAt}
-use Rattle.records.specs.Reading.{short}
+use Rattle.records.specs.Reading.{short, nameless}
 use Rattle.records.proofs.Step.{content-leaf}
 use Rattle.records.proofs.Tree.{rest-length}
 use Rattle.reading.specs.Reads.{reads, readsRecord}
@@ -21,6 +21,7 @@ pub record Held (left : ℕ) (p : Place) (at : ℕ) (s : Bytes) : Type 0 where
   pub long : short s ≡ false
   pub standing : stands p (kindOf s) ≡ true
   pub deeper : 0 < left
+  pub named : nameless p (kindOf s) (contentOf s) ≡ false
   pub content-sound : reads (left - 1) (contentAt p (kindOf s)) (at + 6) (contentOf s) ≡ Sound
   pub leaves : ofBytes (contentAt p (kindOf s)) ≡ isLeaf (kindOf s)
   pub inside : length (contentOf s) + 6 + length (restOf s) ≡ length s
@@ -37,16 +38,23 @@ tests true b x y v h = absurd (refused x h)
 tests false false x y v h = absurd (refused y h)
 tests false true x y v h = (refl, refl, h)
 
+last : (a : Bool) (x : Answer) (v : Verdict) → cond a (Refused x) v ≡ Sound → (a ≡ false) × (v ≡ Sound)
+last true x v h = absurd (refused x h)
+last false x v h = (refl, h)
+
 pub held : (left : ℕ) (p : Place) (at : ℕ) (s : Bytes) → readsRecord left p at s ≡ Sound → Held left p at s
 unfolding readsRecord
 held zero p at s h = absurd (refused (TooDeep at) (tests (short s) (stands p (kindOf s)) (ShortRecord at) (WrongKind at) (Refused (TooDeep at)) h .2))
 held (suc left) p at s h =
-    let t = tests (short s) (stands p (kindOf s)) (ShortRecord at) (WrongKind at) (reads left (contentAt p (kindOf s)) (at + 6) (contentOf s)) h in
+    let v : Verdict = reads left (contentAt p (kindOf s)) (at + 6) (contentOf s) in
+    let t = tests (short s) (stands p (kindOf s)) (ShortRecord at) (WrongKind at) (cond (nameless p (kindOf s) (contentOf s)) (Refused (NoName at)) v) h in
+    let n = last (nameless p (kindOf s) (contentOf s)) (NoName at) v (t .2) in
     record {
       long = t .0;
       standing = t .1;
       deeper = omega arith;
-      content-sound = ap (λ (n : ℕ). reads n (contentAt p (kindOf s)) (at + 6) (contentOf s)) (let o : suc left - 1 ≡ left = omega arith in o) ∙ t .2;
+      named = n .0;
+      content-sound = ap (λ (n : ℕ). reads n (contentAt p (kindOf s)) (at + 6) (contentOf s)) (let o : suc left - 1 ≡ left = omega arith in o) ∙ n .1;
       leaves = content-leaf p (kindOf s) (t .1);
       inside = rest-length s (t .0);
     }

@@ -9,13 +9,13 @@ use lib.ListN.{length, drop}
 use lib.Dec.{leb·suc-suc}
 use borrow.Author.Tests.{le-ltb}
 use Rattle.answers.specs.declared.Answer.{Answer}
-use Rattle.answers.specs.declared.Answer.the-variants.{ShortRecord, WrongKind, TooDeep, LeftOver}
+use Rattle.answers.specs.declared.Answer.the-variants.{ShortRecord, WrongKind, TooDeep, LeftOver, NoName}
 use Rattle.answers.specs.declared.Verdict.{Verdict}
 use Rattle.answers.specs.declared.Verdict.the-variants.{Sound, Refused}
 use Rattle.wire.specs.Numbers.{Bytes}
 use Rattle.records.specs.Record.{lengthOf, kindOf, contentOf, restOf}
 use Rattle.records.specs.Kinds.{Place, stands, Content, bytes, these, any, atMostOne, contentAt}
-use Rattle.records.specs.Reading.{Next, done, leftOver, record-at, next, short, andThen, step, read, reading}
+use Rattle.records.specs.Reading.{Next, done, leftOver, record-at, next, short, nameless, andThen, step, read, reading}
 use Rattle.records.proofs.Tree.{rest-length}
 use Rattle.records.specs.Kinds.{ofBytes}
 use Rattle.records.proofs.Fuel.{step-same, read-same}
@@ -50,11 +50,13 @@ refused true b x y z v = refl
 refused false true x y z v = refl
 refused false false x y z v = refl
 
-passed : (a b : Bool) (x y : Answer) (v w v′ w′ : Verdict) → (a ≡ false → v ≡ v′) → (a ≡ false → w ≡ w′)
-    → cond a (Refused x) (cond b (Refused y) (andThen v w)) ≡ andThen (cond a (Refused x) (cond b (Refused y) v′)) w′
-passed true b x y v w v′ w′ f g = refl
-passed false true x y v w v′ w′ f g = refl
-passed false false x y v w v′ w′ f g = ap₂ andThen (f refl) (g refl)
+passed : (a b c : Bool) (x y z : Answer) (v w v′ w′ : Verdict) → (a ≡ false → v ≡ v′) → (a ≡ false → w ≡ w′)
+    → cond a (Refused x) (cond b (Refused y) (cond c (Refused z) (andThen v w)))
+    ≡ andThen (cond a (Refused x) (cond b (Refused y) (cond c (Refused z) v′))) w′
+passed true b c x y z v w v′ w′ f g = refl
+passed false true c x y z v w v′ w′ f g = refl
+passed false false true x y z v w v′ w′ f g = refl
+passed false false false x y z v w v′ w′ f g = ap₂ andThen (f refl) (g refl)
 
 -- a record, and then what follows it
 at-record : (left : ℕ) (at : ℕ) (s : Bytes) (p : Place) (more : Content) →
@@ -66,7 +68,7 @@ at-record zero at s p more =
     refused (short s) (not (stands p (kindOf s))) (ShortRecord at) (WrongKind at) (TooDeep at) (reads 0 more (at + (4 + lengthOf s)) (restOf s))
 at-record (suc left) at s p more =
     rw (le-ltb (suc left) 1 (omega arith))
-    (passed (short s) (not (stands p (kindOf s))) (ShortRecord at) (WrongKind at) _ _ _ _
+    (passed (short s) (not (stands p (kindOf s))) (nameless p (kindOf s) (contentOf s)) (ShortRecord at) (WrongKind at) (NoName at) _ _ _ _
     (λ l.
     let e = rest-length s l in
     read-shift left (length s) (contentAt p (kindOf s)) 1 (at + 6) (contentOf s)

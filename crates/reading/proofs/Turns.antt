@@ -5,9 +5,9 @@ use mathlib.Core.Bool.{Bool, true, false, not, cond}
 use Prim.Native.Nat.{ℕ, zero, suc, _+_, _-_, _*_, _/_, _%_, _<_, _≤_}
 use native.Mathlib.Omega.{arith}
 use lib.ListN.{length, take, drop, length-take, length-drop}
-use borrow.Author.Tests.{ne-eqb, not-true, not-false}
+use borrow.Author.Tests.{ne-eqb, lt-ltb, le-ltb, not-true, not-false}
 use Rattle.answers.specs.declared.Answer.{Answer}
-use Rattle.answers.specs.declared.Answer.the-variants.{ShortRecord, WrongKind, TooDeep, LeftOver}
+use Rattle.answers.specs.declared.Answer.the-variants.{ShortRecord, WrongKind, TooDeep, LeftOver, NoName}
 use Rattle.answers.specs.declared.Verdict.{Verdict}
 use Rattle.answers.specs.declared.Verdict.the-variants.{Sound, Refused}
 use Rattle.wire.specs.Numbers.{Bytes, num, between}
@@ -15,10 +15,11 @@ use Rattle.wire.proofs.Less.{less}
 use Rattle.wire.proofs.Within.{Within, within-all, within-take, within-drop, within-own}
 use Rattle.records.specs.Record.{lengthOf, kindOf, contentOf, restOf}
 use Rattle.records.specs.Kinds.{Place, stands, rowOf, Content, bytes, contentAt}
-use Rattle.records.specs.Reading.{short, andThen}
+use Rattle.records.specs.Reading.{short, nameless, andThen}
 use Rattle.records.proofs.Tree.{long-enough, content-length}
 use Rattle.rows.specs.Codes.{placeOf, codeOf}
 use Rattle.rows.proofs.Codes.{leaf-bytes}
+use Rattle.rows.proofs.Names.{no-name-due}
 use Rattle.reading.specs.Reads.{reads, readsRecord}
 use Rattle.reading.specs.Codes.{rowContent, rowAfter, rowEnds, rowIn, Good, faultOf, said}
 use Rattle.reading.proofs.Laws.{reads-record, reads-done, reads-leftOver}
@@ -40,12 +41,18 @@ unfolding readsRecord
 record-deep zero at p s y x z = rw (y, x)
 record-deep (suc left) at p s y x z = absurd (omega arith)
 
-record-inside : (left at : ℕ) (p : Place) (s : Bytes) → short s ≡ false → stands p (kindOf s) ≡ true → (left ≡ 0 → ⊥)
-    → readsRecord left p at s ≡ reads (left - 1) (contentAt p (kindOf s)) (at + 6) (contentOf s)
+record-nameless : (left at : ℕ) (p : Place) (s : Bytes) → short s ≡ false → stands p (kindOf s) ≡ true → (left ≡ 0 → ⊥)
+    → nameless p (kindOf s) (contentOf s) ≡ true → readsRecord left p at s ≡ Refused (NoName at)
 unfolding readsRecord
-record-inside zero at p s y x z = absurd (z refl)
-record-inside (suc left) at p s y x z =
-    rw (y, x) (ap (λ (m : ℕ). reads m (contentAt p (kindOf s)) (at + 6) (contentOf s)) (let o : left ≡ suc left - 1 = omega arith in o))
+record-nameless zero at p s y x z m = absurd (z refl)
+record-nameless (suc left) at p s y x z m = rw (y, x, m)
+
+record-inside : (left at : ℕ) (p : Place) (s : Bytes) → short s ≡ false → stands p (kindOf s) ≡ true → (left ≡ 0 → ⊥)
+    → nameless p (kindOf s) (contentOf s) ≡ false → readsRecord left p at s ≡ reads (left - 1) (contentAt p (kindOf s)) (at + 6) (contentOf s)
+unfolding readsRecord
+record-inside zero at p s y x z m = absurd (z refl)
+record-inside (suc left) at p s y x z m =
+    rw (y, x, m) (ap (λ (m : ℕ). reads m (contentAt p (kindOf s)) (at + 6) (contentOf s)) (let o : left ≡ suc left - 1 = omega arith in o))
 
 -- what the number of a refusal says
 fault : (n at : ℕ) → 0 < n → n < 8 → said (8 * at + n) ≡ Refused (faultOf n at)
@@ -70,6 +77,10 @@ said-deep at = fault 6 at (omega arith) (omega arith)
 said-left : (at : ℕ) → said (8 * at + 7) ≡ Refused (LeftOver at)
 unfolding faultOf
 said-left at = fault 7 at (omega arith) (omega arith)
+
+said-nameless : (at : ℕ) → said (8 * at + 3) ≡ Refused (NoName at)
+unfolding faultOf
+said-nameless at = fault 3 at (omega arith) (omega arith)
 
 said-fault : (v : ℕ) → (v ≡ 0 → ⊥) → said v ≡ Refused (faultOf (v % 8) (v / 8))
 unfolding said
@@ -96,9 +107,13 @@ module _ (v : ℕ) (z : v ≡ 0 → ⊥) where
   unfolding faultOf
   verdict-deep e = sym (said-fault v z ∙ rw e)
 
-  pub verdict-left : (v % 8 ≡ 4 → ⊥) → (v % 8 ≡ 5 → ⊥) → (v % 8 ≡ 6 → ⊥) → Refused (LeftOver (v / 8)) ≡ said v
+  pub verdict-nameless : v % 8 < 4 → Refused (NoName (v / 8)) ≡ said v
   unfolding faultOf
-  verdict-left a b c = sym (said-fault v z ∙ rw (ne-eqb (v % 8) 4 a, ne-eqb (v % 8) 5 b, ne-eqb (v % 8) 6 c))
+  verdict-nameless h = sym (said-fault v z ∙ rw (lt-ltb (v % 8) 4 h))
+
+  pub verdict-left : 4 ≤ v % 8 → (v % 8 ≡ 4 → ⊥) → (v % 8 ≡ 5 → ⊥) → (v % 8 ≡ 6 → ⊥) → Refused (LeftOver (v / 8)) ≡ said v
+  unfolding faultOf
+  verdict-left h a b c = sym (said-fault v z ∙ rw (le-ltb (v % 8) 4 h, ne-eqb (v % 8) 4 a, ne-eqb (v % 8) 5 b, ne-eqb (v % 8) 6 c))
 
 -- where a turn stands: at place i with a row and a depth that is left, which read on give the answer w
 pub record Turn (w : Verdict) (card : Bytes) (to deep i row left : ℕ) : Type 0 where
@@ -254,25 +269,42 @@ module _ {w : Verdict} {card : Bytes} {to deep i row left k e after : ℕ} (f : 
 
   -- not too deep
   module _ (deeper : left ≡ 0 → ⊥) where
-    record-reads : readsRecord left (placeOf (row % 256)) i (between card i to)
+    -- its name, by the kind and the part in hand
+    name-there : {b : Bool} → b ≡ nameless (placeOf (row % 256)) k (between card (i + 6) e)
+        → nameless (placeOf (row % 256)) (kindOf (between card i to)) (contentOf (between card i to)) ≡ b
+    name-there x = ap₂ (nameless (placeOf (row % 256))) (sym (f .kind)) content-part ∙ sym x
+
+    -- no name
+    pub turn-nameless : {b : Bool} → b ≡ nameless (placeOf (row % 256)) k (between card (i + 6) e) → b ≡ true → said (8 * i + 3) ≡ w
+    turn-nameless x y =
+        refused (f .turn) (f .more) (f .whole) (f .some) (8 * i + 3) (NoName i) (said-nameless i)
+        (record-nameless left i (placeOf (row % 256)) (between card i to) (f .long) stands-there deeper (name-there x ∙ y))
+
+    record-reads : {b : Bool} → b ≡ nameless (placeOf (row % 256)) k (between card (i + 6) e) → b ≡ false
+        → readsRecord left (placeOf (row % 256)) i (between card i to)
         ≡ reads (left - 1) (contentAt (placeOf (row % 256)) k) (i + 6) (between card (i + 6) e)
-    record-reads =
-        record-inside left i (placeOf (row % 256)) (between card i to) (f .long) stands-there deeper
+    record-reads x y =
+        record-inside left i (placeOf (row % 256)) (between card i to) (f .long) stands-there deeper (name-there x ∙ y)
         ∙ ap₂ (λ (x : ℕ) (c : Bytes). reads (left - 1) (contentAt (placeOf (row % 256)) x) (i + 6) c) (sym (f .kind)) content-part
 
     -- a leaf
-    pub turn-leaf : row % 256 < 4 → Turn w card to deep e after left
-    turn-leaf g =
-        on (record-reads ∙ ap (λ (c : Content). reads (left - 1) c (i + 6) (between card (i + 6) e)) (leaf-bytes (row % 256) k (f .some) g (f .standing))
+    pub turn-leaf : row % 256 < 4 → {b : Bool} → b ≡ nameless (placeOf (row % 256)) k (between card (i + 6) e) → b ≡ false
+        → Turn w card to deep e after left
+    turn-leaf g x y =
+        on (record-reads x y ∙ ap (λ (c : Content). reads (left - 1) c (i + 6) (between card (i + 6) e)) (leaf-bytes (row % 256) k (f .some) g (f .standing))
         ∙ reads-done (left - 1) bytes (i + 6) (between card (i + 6) e) refl)
 
     -- a record that holds nothing
     module _ (g : 4 ≤ row % 256) where
+      inner-named : readsRecord left (placeOf (row % 256)) i (between card i to)
+          ≡ reads (left - 1) (contentAt (placeOf (row % 256)) k) (i + 6) (between card (i + 6) e)
+      inner-named = record-reads (sym (no-name-due (row % 256) k (between card (i + 6) e) (λ z. omega arith))) refl
+
       module _ (n : e ≡ i + 6) {r : ℕ} (x : r ≡ num (map codeOf (rowOf k))) {b : Bool} (y : b ≡ rowEnds r) where
         hollow : readsRecord left (placeOf (row % 256)) i (between card i to) ≡ cond b Sound (Refused (ShortRecord e))
         hollow =
             let o : e - (i + 6) ≡ 0 = omega arith in
-            record-reads ∙ ap (λ (m : ℕ). reads (left - 1) (contentAt (placeOf (row % 256)) k) (i + 6) (take m (drop (i + 6) card))) o
+            inner-named ∙ ap (λ (m : ℕ). reads (left - 1) (contentAt (placeOf (row % 256)) k) (i + 6) (take m (drop (i + 6) card))) o
             ∙ inner-empty (row % 256) k (good-valid row (f .turn .good)) (omega arith) (f .standing) (left - 1) (i + 6)
             ∙ ap₂ (λ (q : Bool) (m : ℕ). cond q Sound (Refused (ShortRecord m))) (sym (y ∙ ap rowEnds x)) (sym n)
 
@@ -293,7 +325,7 @@ module _ {w : Verdict} {card : Bytes} {to deep i row left k e after : ℕ} (f : 
         inner-is =
             let m = part-length card (i + 6) e (let u = f .inside in let v = f .whole in omega arith) in
             let u = less (i + 6) e (f .after-head) (λ z. n (sym z)) in
-            record-reads
+            inner-named
             ∙ sym (ap (λ (r : ℕ). reads (left - 1) (rowContent r) (i + 6) (between card (i + 6) e)) x
             ∙ inner-reads (row % 256) k (good-valid row (f .turn .good)) (omega arith) (f .standing) (left - 1) (i + 6) (between card (i + 6) e) (omega arith))
 

@@ -9,7 +9,7 @@ use lib.ListN.{length, take, drop, length-take, length-drop}
 use lib.Dec.{ltb}
 use borrow.Author.Tests.{lt-ltb}
 use Rattle.answers.specs.declared.Answer.{Answer}
-use Rattle.answers.specs.declared.Answer.the-variants.{BadRoot, ShortRecord, WrongKind, TooDeep, LeftOver}
+use Rattle.answers.specs.declared.Answer.the-variants.{BadRoot, ShortRecord, WrongKind, TooDeep, LeftOver, NoName}
 use Rattle.answers.specs.declared.Verdict.{Verdict}
 use Rattle.answers.specs.declared.Verdict.the-variants.{Sound, Refused}
 use Rattle.wire.specs.Numbers.{Bytes, num, between}
@@ -17,7 +17,7 @@ use Rattle.wire.proofs.Slices.{tail-is}
 use Rattle.wire.proofs.Within.{Within, within-all, within-drop, within-front}
 use Rattle.records.specs.Record.{lengthOf, kindOf, contentOf, restOf}
 use Rattle.records.specs.Kinds.{Place, stands, these, contentAt, mod′, path}
-use Rattle.records.specs.Reading.{short, andThen, reading}
+use Rattle.records.specs.Reading.{short, nameless, andThen, reading}
 use Rattle.records.proofs.Tree.{enough-long}
 use Rattle.rast.proofs.Tests.{by-test}
 use Rattle.rows.specs.Codes.{placeOf}
@@ -36,9 +36,10 @@ same-record zero at p u s a b c =
     ap₂ (λ (x : Bool) (k : ℕ). cond x (Refused (ShortRecord at)) (cond (not (stands p k)) (Refused (WrongKind at)) (Refused (TooDeep at)))) a b
 same-record (suc limit) at p u s a b c =
     ap (λ (x : Bool). cond x (Refused (ShortRecord at))
-    (cond (not (stands p (kindOf u))) (Refused (WrongKind at)) (reads limit (contentAt p (kindOf u)) (at + 6) (contentOf u)))) a
+    (cond (not (stands p (kindOf u))) (Refused (WrongKind at))
+    (cond (nameless p (kindOf u) (contentOf u)) (Refused (NoName at)) (reads limit (contentAt p (kindOf u)) (at + 6) (contentOf u))))) a
     ∙ ap₂ (λ (k : ℕ) (d : Bytes). cond (short s) (Refused (ShortRecord at))
-    (cond (not (stands p k)) (Refused (WrongKind at)) (reads limit (contentAt p k) (at + 6) d))) b c
+    (cond (not (stands p k)) (Refused (WrongKind at)) (cond (nameless p k d) (Refused (NoName at)) (reads limit (contentAt p k) (at + 6) d)))) b c
 
 small-short : (s : Bytes) → lengthOf s < 2 → short s ≡ true
 small-short s h = by-test (ltb (length s) 6) (λ e. rw e) (λ e. rw (e, lt-ltb (lengthOf s) 2 h))

@@ -3,9 +3,9 @@ use mathlib.Core.Path.{_≡_}
 use mathlib.Core.List.{List, [], _∷_, map}
 use mathlib.Core.Bool.{Bool, _||_, cond}
 use Prim.Native.Nat.{ℕ, zero, suc, _+_, _-_, _/_, _%_, _^_, _<_, _≤_}
-use lib.Dec.{eqb, leb}
+use lib.Dec.{eqb, leb, ltb}
 use Rattle.answers.specs.declared.Answer.{Answer}
-use Rattle.answers.specs.declared.Answer.the-variants.{ShortRecord, WrongKind, TooDeep, LeftOver}
+use Rattle.answers.specs.declared.Answer.the-variants.{ShortRecord, WrongKind, TooDeep, LeftOver, NoName}
 use Rattle.answers.specs.declared.Verdict.{Verdict}
 use Rattle.answers.specs.declared.Verdict.the-variants.{Sound, Refused}
 use Rattle.wire.specs.Numbers.{num}
@@ -50,9 +50,9 @@ pub data Good (row : ℕ) : Type 0 where
   again : many ≤ row → 0 < row % 256 → row % 256 < 32 → Good row
   fields : row < many → AllValid 8 row → Good row
 
--- a verdict as one number: 0 is sound, and a refusal its place eight times and its number
+-- a verdict as one number: 0 is sound, and a refusal its place eight times and its number, less 8 where that is 11
 unfoldable pub faultOf : (n at : ℕ) → Answer
-faultOf n at = cond (eqb n 4) (ShortRecord at) (cond (eqb n 5) (WrongKind at) (cond (eqb n 6) (TooDeep at) (LeftOver at)))
+faultOf n at = cond (ltb n 4) (NoName at) (cond (eqb n 4) (ShortRecord at) (cond (eqb n 5) (WrongKind at) (cond (eqb n 6) (TooDeep at) (LeftOver at))))
 
 unfoldable pub said : ℕ → Verdict
 said v = cond (eqb v 0) Sound (Refused (faultOf (v % 8) (v / 8)))

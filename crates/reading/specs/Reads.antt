@@ -4,13 +4,13 @@ use mathlib.Core.Bool.{not, cond}
 use mathlib.Core.Option.{Option, none, some}
 use Prim.Native.Nat.{ℕ, zero, suc, _+_}
 use lib.ListN.{length, drop}
-use Rattle.answers.specs.declared.Answer.the-variants.{BadRoot, ShortRecord, WrongKind, TooDeep}
+use Rattle.answers.specs.declared.Answer.the-variants.{BadRoot, ShortRecord, WrongKind, TooDeep, NoName}
 use Rattle.answers.specs.declared.Verdict.{Verdict}
 use Rattle.answers.specs.declared.Verdict.the-variants.{Sound, Refused}
 use Rattle.wire.specs.Numbers.{Bytes}
 use Rattle.records.specs.Record.{kindOf, contentOf}
 use Rattle.records.specs.Kinds.{Place, stands, Content, bytes, these, any, atMostOne, contentAt}
-use Rattle.records.specs.Reading.{short, read}
+use Rattle.records.specs.Reading.{short, nameless, read}
 
 -- the bytes of a content at place at, whose records may go as deep as is left
 unfoldable pub reads : (left : ℕ) → Content → (at : ℕ) → Bytes → Verdict
@@ -23,7 +23,8 @@ readsRecord zero p at s =
     (cond (not (stands p (kindOf s))) (Refused (WrongKind at)) (Refused (TooDeep at)))
 readsRecord (suc left) p at s =
     cond (short s) (Refused (ShortRecord at))
-    (cond (not (stands p (kindOf s))) (Refused (WrongKind at)) (reads left (contentAt p (kindOf s)) (at + 6) (contentOf s)))
+    (cond (not (stands p (kindOf s))) (Refused (WrongKind at))
+    (cond (nameless p (kindOf s) (contentOf s)) (Refused (NoName at)) (reads left (contentAt p (kindOf s)) (at + 6) (contentOf s))))
 
 -- what a content asks after j records
 abbrev pub after : Content → ℕ → Content

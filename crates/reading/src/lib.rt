@@ -1,4 +1,4 @@
-// Reading: sound, or the first fault of 4 to 7 with its place. One pass over the bytes, nothing copied.
+// Reading: sound, or the first fault of 4 to 7 and 11 with its place. One pass over the bytes, nothing copied.
 use answers::Answer;
 use answers::Verdict;
 ghost use mathlib.Core.Path.{_≡_};
@@ -50,7 +50,7 @@ fn may_end(row: u64) -> bool
 }
 
 // The bytes of the card from one place to another, as the content of a row whose records may go this deep. The answer is one number: 0, or the
-// place of a fault eight times and its number. A record that ends its parent is read on with, not entered. What may_stand found out of the
+// place of a fault eight times and its number, 3 for 11. A record that ends its parent is read on with, not entered. What may_stand found out of the
 // place is used right behind it, so that it is branched on once; depth is tested in either branch.
 fn read_content(
     card: &[u8],
@@ -84,6 +84,9 @@ fn read_content(
         if p < 4 {
             if left == 0 {
                 return 8 * i + 6;
+            }
+            if rows::is_nameless(p, k, &card[i + 6..e]) {
+                return 8 * i + 3;
             }
             i = e;
             row = after;
@@ -131,6 +134,9 @@ fn verdict(v: usize) -> Verdict
     }
     let at = v / 8;
     let n = v % 8;
+    if n < 4 {
+        return Verdict::Refused(Answer::NoName(at));
+    }
     if n == 4 {
         return Verdict::Refused(Answer::ShortRecord(at));
     }

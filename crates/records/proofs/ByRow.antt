@@ -85,7 +85,7 @@ option-node (node k (r ▸ s ▸ c)) p f = absurd (f .1 .1)
 -- what follows from a record at each of several kinds follows from it at a place for all of them
 pub by-kind : {X : Type 0} (from n : ℕ) (r : Record) → Run (λ k. Fits r (one k) → X) from n → Fits r (kinds from (from + n)) → X
 unfolding Fits contentAt
-by-kind {X} from n (leaf k b) h f = in-run (λ j. Fits (leaf k b) (one j) → X) from n h k (f .0) (rw (le-leb k k (le-refl k)), f .1)
+by-kind {X} from n (leaf k b) h f = in-run (λ j. Fits (leaf k b) (one j) → X) from n h k (f .0) (rw (le-leb k k (le-refl k)), f .1, refl)
 by-kind {X} from n (node k c) h f = in-run (λ j. Fits (node k c) (one j) → X) from n h k (f .0) (rw (le-leb k k (le-refl k)), f .1)
 
 -- at a place for several kinds, of a record whose kind is known

@@ -1,4 +1,4 @@
--- Reading refuses by 4 to 7 alone, at a place within the bytes. Assumes nothing.
+-- Reading refuses by 4 to 7 and 11 alone, at a place within the bytes. Assumes nothing.
 use mathlib.Core.Path.{_≡_, refl}
 use mathlib.Core.Bool.{Bool, true, false, not, cond}
 use mathlib.Core.List.{[], _∷_}
@@ -9,16 +9,16 @@ use lib.Dec.{ltb}
 use Rattle.answers.specs.Answers.{value}
 use Rattle.answers.specs.declared.Answer.{Answer}
 use Rattle.answers.specs.declared.Answer.the-variants.{Shortened, ShortWork, LongCard, BadRoot, ShortRecord, WrongKind}
-use Rattle.answers.specs.declared.Answer.the-variants.{TooDeep, LeftOver, FullTable, NoSpace, ShortList}
+use Rattle.answers.specs.declared.Answer.the-variants.{TooDeep, LeftOver, FullTable, NoSpace, ShortList, NoName}
 use Rattle.answers.specs.declared.Verdict.{Verdict}
 use Rattle.answers.specs.declared.Verdict.the-variants.{Sound, Refused}
 use Rattle.wire.specs.Numbers.{Bytes}
 use Rattle.records.specs.Record.{lengthOf, kindOf, contentOf, restOf}
 use Rattle.records.specs.Kinds.{Place, stands, Content, these, contentAt}
-use Rattle.records.specs.Reading.{Next, done, leftOver, record-at, next, short, andThen, step, read, reading}
+use Rattle.records.specs.Reading.{Next, done, leftOver, record-at, next, short, nameless, andThen, step, read, reading}
 use Rattle.records.proofs.Tree.{rest-length, content-length}
 
--- sound, or one of 4 to 7
+-- sound, or one of 4 to 7 and 11
 abbrev pub fault : Answer → Bool
 fault (Shortened n) = false
 fault ShortWork = false
@@ -31,12 +31,13 @@ fault (LeftOver n) = true
 fault (FullTable n) = false
 fault NoSpace = false
 fault ShortList = false
+fault (NoName n) = true
 
 abbrev pub fair : Verdict → Bool
 fair Sound = true
 fair (Refused a) = fault a
 
--- sound, or refused by one of 4 to 7 at a place that is not past m
+-- sound, or refused by one of 4 to 7 and 11 at a place that is not past m
 unfoldable pub Within : ℕ → Verdict → Type 0
 Within m Sound = Unit {0}
 Within m (Refused a) = (fault a ≡ true) × (value a ≤ m)
@@ -60,7 +61,9 @@ module _ (m : ℕ) where
   step-within (record-at p more) limit depth at s content rest h f g =
       picked-within (short s) _ _ (refl, h)
       (λ l. picked-within (not (stands p (kindOf s))) _ _ (refl, h)
-      (λ t. picked-within (ltb limit depth) _ _ (refl, h) (λ t. both-within (content (contentAt p (kindOf s))) (rest more) (f l _) (g l _))))
+      (λ t. picked-within (ltb limit depth) _ _ (refl, h)
+      (λ t. picked-within (nameless p (kindOf s) (contentOf s)) _ _ (refl, h)
+      (λ t. both-within (content (contentAt p (kindOf s))) (rest more) (f l _) (g l _)))))
 
 within-more : (m n : ℕ) (v : Verdict) → m ≤ n → Within m v → Within n v
 unfolding Within

@@ -1,7 +1,7 @@
 -- A tree that fits a place reads sound there. Assumes nothing.
 use mathlib.Core.Path.{_≡_, refl, sym, ap, _∙_, subst}
 use mathlib.Core.List.{[], _∷_, _++_, append-nil}
-use mathlib.Core.Bool.{true}
+use mathlib.Core.Bool.{true, false}
 use Prim.Native.Nat.{ℕ, zero, suc, _+_, _^_, _<_, _≤_}
 use native.Mathlib.Omega.{arith}
 use lib.ListN.{length, length-append}
@@ -9,12 +9,13 @@ use Rattle.answers.specs.declared.Verdict.the-variants.{Sound}
 use Rattle.wire.specs.Numbers.{Bytes}
 use Rattle.records.specs.Record.{Record, Records, leaf, node, nil, _▸_, recordBytes, encode, encodeAll, lengthOf, tree, deep, deepAll}
 use Rattle.records.specs.Kinds.{Place, stands, Content, bytes, these, any, atMostOne, contentAt}
-use Rattle.records.specs.Reading.{done, record-at, next, read, reading}
+use Rattle.records.specs.Reading.{done, record-at, next, nameless, read, reading}
 use Rattle.records.proofs.Fits.{Fits, FitsAll}
 use Rattle.records.specs.Canonical.{Canonical, CanonicalAll}
 use Rattle.records.proofs.Tree.{record-length, front-kind, front-content, front-rest, front-short, tree-encode}
 use Rattle.records.proofs.Step.{read-bytes, read-done, Next-sound, stepped-read}
 use Rattle.records.proofs.Sound.{ReadsAs}
+use Rattle.records.proofs.Leaves.{node-named}
 
 -- where no records fit, nothing comes next in no bytes
 pub fits-done : (c : Content) → FitsAll nil c → next c [] ≡ done
@@ -46,13 +47,14 @@ fits-next (atMostOne p) (b ∷ s) r d l f = record { place = p; more = these [];
 
 -- a record's bytes whose content reads sound and which what reads sound follows
 pub front-sound : (limit n depth at k : ℕ) (content rest : Bytes) (p : Place) (more : Content) → k < 65536 → 2 + length content < 2 ^ 32
-    → stands p k ≡ true → depth ≤ limit
+    → stands p k ≡ true → depth ≤ limit → nameless p k content ≡ false
     → ((at : ℕ) → read limit n (contentAt p k) (depth + 1) at content ≡ Sound) → ((at : ℕ) → read limit n more depth at rest ≡ Sound)
     → Next-sound limit n depth at (recordBytes k content ++ rest) p more
-front-sound limit n depth at k content rest p more small bounded st sh inner after = record {
+front-sound limit n depth at k content rest p more small bounded st sh nm inner after = record {
   long = front-short k content rest small bounded;
   standing = rw (front-kind k content rest small bounded) st;
   shallow = sh;
+  named = rw (front-kind k content rest small bounded, front-content k content rest small bounded) nm;
   content-sound = rw (front-kind k content rest small bounded, front-content k content rest small bounded) (inner (at + 6));
   rest-sound = rw (front-rest k content rest small bounded) (after (at + (4 + lengthOf (recordBytes k content ++ rest))));
 }
@@ -75,7 +77,7 @@ fits-read limit (suc n) c depth at (leaf k b ▸ d) f g h =
     let s = recordBytes k b ++ encodeAll d in
     let x = fits-next c s (leaf k b) d (some-bytes k b (encodeAll d)) f in
     stepped-read limit n depth at s c (x .place) (x .more) (x .is)
-    (front-sound limit n depth at k b (encodeAll d) (x .place) (x .more) (g .0 .1) (g .0 .2) (x .fits .0) (omega arith)
+    (front-sound limit n depth at k b (encodeAll d) (x .place) (x .more) (g .0 .1) (g .0 .2) (x .fits .0) (omega arith) (x .fits .2)
     (λ at. rw (x .fits .1) (read-bytes limit n (depth + 1) at b))
     (λ at. fits-read limit n (x .more) depth at d (x .others) (g .1) (omega arith)))
 fits-read limit (suc n) c depth at (node k e ▸ d) f g h =
@@ -83,6 +85,7 @@ fits-read limit (suc n) c depth at (node k e ▸ d) f g h =
     let x = fits-next c s (node k e) d (some-bytes k (encodeAll e) (encodeAll d)) f in
     stepped-read limit n depth at s c (x .place) (x .more) (x .is)
     (front-sound limit n depth at k (encodeAll e) (encodeAll d) (x .place) (x .more) (g .0 .1) (g .0 .2) (x .fits .0) (omega arith)
+    (node-named (x .place) k e (encodeAll e) (x .fits .1))
     (λ at. fits-read limit n (contentAt (x .place) k) (depth + 1) at e (x .fits .1) (g .0 .3) (omega arith))
     (λ at. fits-read limit n (x .more) depth at d (x .others) (g .1) (omega arith)))
 

@@ -5,13 +5,13 @@ use Prim.Native.Nat.{ℕ, zero, suc, _+_, _<_}
 use native.Mathlib.Omega.{arith}
 use lib.ListN.{length}
 use lib.Dec.{ltb}
-use Rattle.answers.specs.declared.Answer.the-variants.{ShortRecord, WrongKind, TooDeep}
+use Rattle.answers.specs.declared.Answer.the-variants.{ShortRecord, WrongKind, TooDeep, NoName}
 use Rattle.answers.specs.declared.Verdict.{Verdict}
 use Rattle.answers.specs.declared.Verdict.the-variants.{Refused}
 use Rattle.wire.specs.Numbers.{Bytes}
 use Rattle.records.specs.Record.{lengthOf, kindOf, contentOf, restOf}
 use Rattle.records.specs.Kinds.{stands, Content, contentAt}
-use Rattle.records.specs.Reading.{Next, done, leftOver, record-at, next, short, andThen, step, read}
+use Rattle.records.specs.Reading.{Next, done, leftOver, record-at, next, short, nameless, andThen, step, read}
 use Rattle.records.proofs.Tree.{rest-length}
 
 -- a step asks for the content and for what follows only where the record is all there
@@ -23,7 +23,10 @@ step-same leftOver limit depth at s content content′ rest rest′ f g = refl
 step-same (record-at p more) limit depth at s content content′ rest rest′ f g = go (short s) f g
   where
     further : Verdict → Verdict
-    further v = cond (not (stands p (kindOf s))) (Refused (WrongKind at)) (cond (ltb limit depth) (Refused (TooDeep at)) v)
+    further v =
+        cond (not (stands p (kindOf s))) (Refused (WrongKind at))
+        (cond (ltb limit depth) (Refused (TooDeep at))
+        (cond (nameless p (kindOf s) (contentOf s)) (Refused (NoName at)) v))
 
     go : (b : Bool) → (b ≡ false → (c : Content) → content c ≡ content′ c) → (b ≡ false → (c : Content) → rest c ≡ rest′ c)
         → cond b (Refused (ShortRecord at)) (further (andThen (content (contentAt p (kindOf s))) (rest more)))

@@ -1,12 +1,14 @@
 -- Records of bytes, and records at a kind that is known. Assumes nothing.
 use mathlib.Core.Path.{_≡_, refl, sym, ap, _∙_, subst}
 use mathlib.Core.List.{List}
-use mathlib.Core.Bool.{true}
+use mathlib.Core.Bool.{true, false}
 use Prim.Native.Nat.{ℕ}
 use native.Mathlib.Omega.{arith}
 use borrow.Author.Tests.{eqb-true}
+use Rattle.wire.specs.Numbers.{Bytes}
 use Rattle.records.specs.Record.{Record, Records, leaf, node, nil, _▸_, kind, text, children, is}
-use Rattle.records.specs.Kinds.{Place, one, name, stands, Content, bytes, these, contentAt}
+use Rattle.records.specs.Kinds.{Place, kinds, one, name, seq, option, stands, Content, bytes, these, contentAt}
+use Rattle.records.specs.Reading.{nameless}
 use Rattle.records.proofs.Fits.{Fits, FitsAll}
 use Rattle.records.proofs.Run.{within}
 
@@ -21,6 +23,14 @@ pub no-records : (c : Records) → FitsAll c bytes → ⊥
 unfolding FitsAll
 no-records nil f = f
 no-records (r ▸ c) f = f
+
+-- no record that holds records is without a name
+pub node-named : (p : Place) (k : ℕ) (c : Records) (s : Bytes) → FitsAll c (contentAt p k) → nameless p k s ≡ false
+unfolding contentAt
+node-named (kinds from to) k c s f = refl
+node-named name k c s f = absurd (no-records c f)
+node-named (seq p) k c s f = refl
+node-named (option p) k c s f = refl
 
 -- a record of bytes
 pub leaf-right : (p : Place) (k₀ : ℕ) → ((k : ℕ) → stands p k ≡ true → k ≡ k₀) → contentAt p k₀ ≡ bytes → (r : Record) → Fits r p → leaf k₀ (text r) ≡ r

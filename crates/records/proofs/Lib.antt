@@ -8,10 +8,11 @@ pub mod Run
 pub mod Closed
 pub mod Leaves
 pub mod ByRow
+pub mod Named
 pub mod Hereditary
 pub mod Shape
 pub mod Faults
 pub mod First
 pub mod Front
 pub mod Starts
-pub mod Worked
+pub mod Examples

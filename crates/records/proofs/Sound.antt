@@ -10,7 +10,7 @@ use Rattle.wire.specs.Numbers.{Bytes, AreBytes}
 use Rattle.records.specs.Record.{Record, Records, leaf, node, nil, _▸_, isLeaf, encode, encodeAll, lengthOf, kindOf, contentOf}
 use Rattle.records.specs.Record.{restOf, parse, nth, tree, deep, deepAll}
 use Rattle.records.specs.Kinds.{Place, stands, Content, bytes, these, any, atMostOne, contentAt}
-use Rattle.records.specs.Reading.{Next, done, leftOver, record-at, next, short, read, reading}
+use Rattle.records.specs.Reading.{Next, done, leftOver, record-at, next, short, nameless, read, reading}
 use Rattle.records.proofs.Fits.{Fits, FitsAll}
 use Rattle.records.specs.Canonical.{Canonical, CanonicalAll}
 use Rattle.records.proofs.Tree.{long-enough, content-length, rest-length, content-bytes, rest-bytes, kind-small, length-small}
@@ -56,10 +56,11 @@ pub record Is (limit depth : ℕ) (p : Place) (s : Bytes) (r : Record) : Type 0 
 
 -- the record at the front, by what its content is
 is-first : (limit depth m : ℕ) (p : Place) (s : Bytes) → AreBytes s → short s ≡ false → stands p (kindOf s) ≡ true → depth ≤ limit
+    → nameless p (kindOf s) (contentOf s) ≡ false
     → (ofBytes (contentAt p (kindOf s)) ≡ false → Are limit (depth + 1) (contentAt p (kindOf s)) (contentOf s) (parse m (contentOf s)))
     → Is limit depth p s (cond (isLeaf (kindOf s)) (leaf (kindOf s) (contentOf s)) (node (kindOf s) (parse m (contentOf s))))
 unfolding encode Fits Canonical deep
-is-first limit depth m p s h l st sh inner = go (isLeaf (kindOf s)) refl
+is-first limit depth m p s h l st sh nm inner = go (isLeaf (kindOf s)) refl
   where
     bounded : 2 + length (contentOf s) < 2 ^ 32
     bounded = let a = content-length s l in let b = length-small s h in omega arith
@@ -67,7 +68,7 @@ is-first limit depth m p s h l st sh inner = go (isLeaf (kindOf s)) refl
     go : (b : Bool) → isLeaf (kindOf s) ≡ b → Is limit depth p s (cond b (leaf (kindOf s) (contentOf s)) (node (kindOf s) (parse m (contentOf s))))
     go true e = record {
       encoded = sym (record-split s l h);
-      fits = (st, ofBytes-true (contentAt p (kindOf s)) (content-leaf p (kindOf s) st ∙ e));
+      fits = (st, ofBytes-true (contentAt p (kindOf s)) (content-leaf p (kindOf s) st ∙ e), nm);
       canonical = (e, kind-small s h, bounded);
       shallow = omega arith;
     }
@@ -111,7 +112,7 @@ read-record limit n law (suc m) c depth at s p more h l k q e =
     let b = rest-length s (e .long) in
     rw (parse-step m s (omega arith))
     (are-next limit depth c s p more _ (parse m (restOf s)) q
-    (is-first limit depth m p s h (e .long) (e .standing) (e .shallow)
+    (is-first limit depth m p s h (e .long) (e .standing) (e .shallow) (e .named)
     (λ r. law m (contentAt p (kindOf s)) (depth + 1) (at + 6) (contentOf s) (content-bytes s h) (omega arith) (omega arith) r (omega arith) (e .content-sound)))
     (law m more depth (at + (4 + lengthOf s)) (restOf s) (rest-bytes s h) (omega arith) (omega arith) (next-more c s p more q) (omega arith) (e .rest-sound)))
 

@@ -7,47 +7,51 @@ use native.Mathlib.Omega.{arith}
 use lib.Dec.{ltb}
 use borrow.Author.Tests.{ltb-false, le-ltb, eqb-true}
 use Rattle.answers.specs.declared.Answer.{Answer}
-use Rattle.answers.specs.declared.Answer.the-variants.{ShortRecord, WrongKind, TooDeep}
+use Rattle.answers.specs.declared.Answer.the-variants.{ShortRecord, WrongKind, TooDeep, NoName}
 use Rattle.answers.specs.declared.Verdict.{Verdict}
 use Rattle.answers.specs.declared.Verdict.the-variants.{Sound, Refused}
 use Rattle.wire.specs.Numbers.{Bytes}
 use Rattle.records.specs.Record.{isLeaf, lengthOf, kindOf, contentOf, restOf}
 use Rattle.records.specs.Kinds.{Place, kinds, name, seq, option, stands, Content, bytes, these, any, atMostOne, ofBytes, contentAt, rowOf}
-use Rattle.records.specs.Reading.{done, leftOver, record-at, next, short, andThen, step, read}
+use Rattle.records.specs.Reading.{done, leftOver, record-at, next, short, nameless, andThen, step, read}
 
 -- two verdicts one after the other are sound if both are
 pub andThen-sound : (v w : Verdict) → andThen v w ≡ Sound → (v ≡ Sound) × (w ≡ Sound)
 andThen-sound Sound w h = (refl, h)
 andThen-sound (Refused a) w h = (h, cc)
 
--- what a sound step at a record says: the record is all there, stands at its place and is not too deep, and its content and what follows it are sound
+-- what a sound step at a record says: the record is all there, stands at its place, is not too deep and is not without a name, and its content and what
+-- follows it are sound
 pub record Stepped (p : Place) (more : Content) (limit depth : ℕ) (s : Bytes) (content rest : Content → Verdict) : Type 0 where
   pub long : short s ≡ false
   pub standing : stands p (kindOf s) ≡ true
   pub shallow : depth ≤ limit
+  pub named : nameless p (kindOf s) (contentOf s) ≡ false
   pub content-sound : content (contentAt p (kindOf s)) ≡ Sound
   pub rest-sound : rest more ≡ Sound
 
-passed : (a b c : Bool) (x y z : Answer) (v : Verdict) → cond a (Refused x) (cond (not b) (Refused y) (cond c (Refused z) v)) ≡ Sound
-    → (a ≡ false) × (b ≡ true) × (c ≡ false) × (v ≡ Sound)
-passed true b c x y z v h = (cc, cc, cc, cc)
-passed false true true x y z v h = (refl, refl, cc, cc)
-passed false true false x y z v h = (refl, refl, refl, h)
-passed false false c x y z v h = (refl, cc, cc, cc)
+passed : (a b c d : Bool) (x y z w : Answer) (v : Verdict)
+    → cond a (Refused x) (cond (not b) (Refused y) (cond c (Refused z) (cond d (Refused w) v))) ≡ Sound
+    → (a ≡ false) × (b ≡ true) × (c ≡ false) × (d ≡ false) × (v ≡ Sound)
+passed true b c d x y z w v h = (cc, cc, cc, cc, cc)
+passed false false c d x y z w v h = (refl, cc, cc, cc, cc)
+passed false true true d x y z w v h = (refl, refl, cc, cc, cc)
+passed false true false true x y z w v h = (refl, refl, refl, cc, cc)
+passed false true false false x y z w v h = (refl, refl, refl, refl, h)
 
 -- a sound step at a record says all that
 pub step-stepped : (p : Place) (more : Content) (limit depth at : ℕ) (s : Bytes) (content rest : Content → Verdict)
     → step (record-at p more) limit depth at s content rest ≡ Sound → Stepped p more limit depth s content rest
 step-stepped p more limit depth at s content rest h =
-    let g = passed (short s) (stands p (kindOf s)) (ltb limit depth) (ShortRecord at) (WrongKind at) (TooDeep at)
+    let g = passed (short s) (stands p (kindOf s)) (ltb limit depth) (nameless p (kindOf s) (contentOf s)) (ShortRecord at) (WrongKind at) (TooDeep at) (NoName at)
     (andThen (content (contentAt p (kindOf s))) (rest more)) h in
-    let v = andThen-sound (content (contentAt p (kindOf s))) (rest more) (g .3) in
-    record { long = g .0; standing = g .1; shallow = ltb-false limit depth (g .2); content-sound = v .0; rest-sound = v .1 }
+    let v = andThen-sound (content (contentAt p (kindOf s))) (rest more) (g .4) in
+    record { long = g .0; standing = g .1; shallow = ltb-false limit depth (g .2); named = g .3; content-sound = v .0; rest-sound = v .1 }
 
 -- and what says all that is a sound step
 pub stepped-step : (p : Place) (more : Content) (limit depth at : ℕ) (s : Bytes) (content rest : Content → Verdict)
     → Stepped p more limit depth s content rest → step (record-at p more) limit depth at s content rest ≡ Sound
-stepped-step p more limit depth at s content rest h = rw (h .long, h .standing, le-ltb limit depth (h .shallow), h .content-sound, h .rest-sound)
+stepped-step p more limit depth at s content rest h = rw (h .long, h .standing, le-ltb limit depth (h .shallow), h .named, h .content-sound, h .rest-sound)
 
 -- bytes that are left over are not sound
 pub step-leftOver : (limit depth at : ℕ) (s : Bytes) (content rest : Content → Verdict) → step leftOver limit depth at s content rest ≡ Sound → ⊥

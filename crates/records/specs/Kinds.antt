@@ -5,7 +5,7 @@ use Prim.Native.Nat.{ℕ}
 use lib.Dec.{eqb, leb}
 use Rattle.records.specs.Record.{isLeaf}
 
--- what stands at a place: one record of a kind from the first to the last; the Text that a PMemberSelect holds, which a later reading may look into;
+-- what stands at a place: one record of a kind from the first to the last; the Text that a PMemberSelect holds, which is to be a name;
 -- a seq; an Option
 pub data Place : Type 0 where
   kinds : ℕ → ℕ → Place

@@ -1,4 +1,5 @@
 pub mod Record
 pub mod Kinds
 pub mod Reading
+pub mod Named
 pub mod Canonical

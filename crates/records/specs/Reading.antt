@@ -1,15 +1,15 @@
--- 01, "The console's answers", 4 to 7: reading, with the first fault in 01's order. Assumes nothing: these are definitions.
+-- 01, "The console's answers", 4 to 7, and 02, request 4, 11: reading, with the first fault in their order. Assumes nothing: these are definitions.
 use mathlib.Core.List.{[], _∷_}
-use mathlib.Core.Bool.{Bool, not, _||_, cond}
+use mathlib.Core.Bool.{Bool, true, false, not, _&&_, _||_, cond}
 use Prim.Native.Nat.{ℕ, zero, suc, _+_}
 use lib.ListN.{length}
-use lib.Dec.{ltb}
-use Rattle.answers.specs.declared.Answer.the-variants.{ShortRecord, WrongKind, TooDeep, LeftOver}
+use lib.Dec.{eqb, ltb}
+use Rattle.answers.specs.declared.Answer.the-variants.{ShortRecord, WrongKind, TooDeep, LeftOver, NoName}
 use Rattle.answers.specs.declared.Verdict.{Verdict}
 use Rattle.answers.specs.declared.Verdict.the-variants.{Sound, Refused}
 use Rattle.wire.specs.Numbers.{Bytes}
 use Rattle.records.specs.Record.{lengthOf, kindOf, contentOf, restOf}
-use Rattle.records.specs.Kinds.{Place, stands, Content, bytes, these, any, atMostOne, contentAt}
+use Rattle.records.specs.Kinds.{Place, kinds, name, seq, option, stands, Content, bytes, these, any, atMostOne, contentAt}
 
 -- what comes next in a content, by the bytes that are left of it: nothing; bytes that should not be there; or a record at a place, and then more
 pub data Next : Type 0 where
@@ -30,11 +30,23 @@ next (atMostOne p) (b ∷ s) = record-at p (these [])
 abbrev pub short : Bytes → Bool
 short s = ltb (length s) 6 || ltb (lengthOf s) 2 || ltb (length s) (4 + lengthOf s)
 
+-- 11: a Text held by a PMemberSelect that is empty or is the one byte '!'; a test on place, kind and content
+abbrev pub isNoName : Bytes → Bool
+isNoName [] = true
+isNoName (b ∷ []) = eqb b 33
+isNoName (b ∷ c ∷ s) = false
+
+abbrev pub nameless : Place → ℕ → Bytes → Bool
+nameless (kinds from to) k content = false
+nameless name k content = eqb k 0x01 && isNoName content
+nameless (seq p) k content = false
+nameless (option p) k content = false
+
 abbrev pub andThen : Verdict → Verdict → Verdict
 andThen Sound v = v
 andThen (Refused a) v = Refused a
 
--- the record at the front of s: 4, 5 and 6, then its content, then what follows it
+-- the record at the front of s: 4, 5, 6 and 11, then its content, then what follows it
 abbrev pub step : Next → (limit depth at : ℕ) → Bytes → (Content → Verdict) → (Content → Verdict) → Verdict
 step done limit depth at s content rest = Sound
 step leftOver limit depth at s content rest = Refused (LeftOver at)
@@ -43,7 +55,8 @@ step (record-at p more) limit depth at s content rest =
     let whole : Verdict = andThen (content (contentAt p (kindOf s))) following in
     cond (short s) (Refused (ShortRecord at))
     (cond (not (stands p (kindOf s))) (Refused (WrongKind at))
-    (cond (ltb limit depth) (Refused (TooDeep at)) whole))
+    (cond (ltb limit depth) (Refused (TooDeep at))
+    (cond (nameless p (kindOf s) (contentOf s)) (Refused (NoName at)) whole)))
 
 -- a content's bytes s, which stand at place at of the card and hold records at this depth, at most limit deep; n bounds how many follow or hold one another
 unfoldable pub read : (limit n : ℕ) → Content → (depth at : ℕ) → Bytes → Verdict

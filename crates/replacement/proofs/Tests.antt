@@ -1,13 +1,11 @@
 -- Whether a path is replaced, test by test. Assumes nothing.
 use mathlib.Core.Path.{_≡_, sym, ap, _∙_}
 use mathlib.Core.List.{List}
-use mathlib.Core.Bool.{Bool, true, false, _&&_}
-use Prim.Native.Nat.{ℕ, _+_, _-_, _*_, _%_, _<_}
-use native.Mathlib.Omega.{arith}
+use mathlib.Core.Bool.{Bool, true, false, not, _&&_}
+use Prim.Native.Nat.{ℕ, _+_, _-_, _*_, _%_}
 use lib.ListN.{length, take, getD}
-use borrow.Author.Tests.{eq-eqb, ne-eqb, lt-ltb, le-ltb}
+use borrow.Author.Tests.{eq-eqb, ne-eqb, not-true, not-false}
 use Rattle.wire.specs.Numbers.{Bytes}
-use Rattle.wire.proofs.Less.{at-least-one}
 use Rattle.records.specs.Record.{kindOf, contentOf, restOf, firstRecord}
 use Rattle.factor_paths.specs.PathsVisitor.{marked, unmarked}
 use Rattle.operation.specs.Operations.{samePaths}
@@ -69,17 +67,10 @@ module _ (s : Scope) (words : List ℕ) where
         unfolding replacesExpr
         of-mark = rw (kind-is, eq-eqb k 0x13 h, whole, t, n, b)
 
-        pub expr-empty : length name ≡ 0 → false ≡ replacesExpr s words r
-        expr-empty z = sym (of-mark ∙ rw (le-ltb 0 (length name) (omega arith)))
-
-        module _ (z : length name ≡ 0 → ⊥) where
-          filled : 0 < length name
-          filled = let o = at-least-one (length name) z in omega arith
-
-          pub expr-plain : (getD name (length name - 1) 0 ≡ 33 → ⊥) → false ≡ replacesExpr s words r
-          expr-plain m = sym (of-mark ∙ rw (lt-ltb 0 (length name) filled, ne-eqb (getD name (length name - 1) 0) 33 m))
+        module _ (t′ : Bool) (v : t′ ≡ marked name) where
+          pub expr-plain : not t′ ≡ true → false ≡ replacesExpr s words r
+          expr-plain m = sym (of-mark ∙ rw (sym v ∙ not-true t′ m))
 
           -- the name without its mark
-          pub expr-marked : getD name (length name - 1) 0 ≡ 33 → (x : Bool) → x ≡ replaces s words (take (length name - 1) name) base
-              → x ≡ replacesExpr s words r
-          expr-marked m x q = q ∙ sym (of-mark ∙ rw (lt-ltb 0 (length name) filled, eq-eqb (getD name (length name - 1) 0) 33 m))
+          pub expr-marked : not t′ ≡ false → (x : Bool) → x ≡ replaces s words (take (length name - 1) name) base → x ≡ replacesExpr s words r
+          expr-marked m x q = q ∙ sym (of-mark ∙ rw (sym v ∙ not-false t′ m))

@@ -114,13 +114,9 @@ pub fn replaces_expr(
     if replaces(op, card, root, chain, work, name, base) {
         return true;
     }
-    let n = name.len();
-    if n == 0 {
+    if !paths::is_marked(name) {
         return false;
     }
-    let last = n - 1;
-    if name[last] != b'!' {
-        return false;
-    }
+    let last = name.len() - 1;
     replaces(op, card, root, chain, work, &name[..last], base)
 }

@@ -1,4 +1,5 @@
 pub mod Codes
 pub mod Fields
+pub mod Names
 pub mod Runs
 pub mod Tables

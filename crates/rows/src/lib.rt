@@ -1,11 +1,12 @@
-// The rows of child places, one for each kind, and which kinds may stand at a place. A place is a number: 0 is none, 1 to 0x1A one record,
-// 0x20 more a seq of it, 0x40 more an Option of it. leaf_at and place_of name the places of one record.
+// The rows of child places, one for each kind, which kinds may stand at a place, and what is no name where one is due. A place is a number: 0 is
+// none, 1 to 0x1A one record, 0x20 more a seq of it, 0x40 more an Option of it. leaf_at and place_of name the places of one record.
 ghost use mathlib.Core.Path.{_≡_};
 ghost use mathlib.Core.Bool.{cond};
 ghost use Prim.Native.Nat.{ℕ, _<_, _≤_};
 ghost use lib.ListN.{getD};
 ghost use lib.Dec.{eqb, ltb};
 ghost use Rattle.records.specs.Kinds.{stands};
+ghost use Rattle.records.specs.Reading.{nameless};
 ghost use Rattle.rows.specs.Codes.{placeOf, table as Codes·table};
 
 // A row for each kind from 0 to 0x86: a byte for each field's place, the first field's the lowest.
@@ -209,4 +210,24 @@ pub fn may_stand(p: usize, k: usize) -> bool
         0x1B..=0x1F => k == 0, // none
         _ => k == 0x02, // a seq or an Option
     }
+}
+
+// Whether the content of a record of kind k at place p is no name where one is due: a PMemberSelect's Text that is empty or the one byte '!'.
+pub fn is_nameless(p: usize, k: usize, content: &[u8]) -> bool
+    ensures { λ r. ⌜ r ≡ nameless (placeOf p) k (now (content .entry)) ⌝ }
+{
+    if p != 0x03 {
+        return false;
+    }
+    if k != 0x01 {
+        return false;
+    }
+    let n = content.len();
+    if 1 < n {
+        return false;
+    }
+    if n == 0 {
+        return true;
+    }
+    content[0] == b'!'
 }

@@ -1,15 +1,16 @@
 -- 42 and 4 are the least numbers that will do: modules whose outputs are longer than 41 times and 3 times themselves, by computation. Assumes nothing.
 use mathlib.Core.Path.{_≡_, refl}
 use mathlib.Core.List.{[], _∷_}
-use mathlib.Core.Bool.{true}
+use mathlib.Core.Bool.{true, false}
 use Prim.Native.Nat.{ℕ, zero, suc, _*_, _≤_}
 use native.Mathlib.Omega.{arith}
 use lib.ListN.{replicate}
 use lib.Dec.{ltb, lit≤}
-use borrow.Author.Tests.{ltb-true}
+use borrow.Author.Tests.{ltb-true, ne-eqb}
 use Rattle.wire.specs.Numbers.{sameBytes}
 use Rattle.records.specs.Record.{Record, Records, leaf, node, nil, _▸_, _▸▸_, deep, nth, setNth, FoldLeft, mapAll}
 use Rattle.records.specs.Kinds.{type, expr, mod′, any, rowOf, contentAt}
+use Rattle.records.specs.Reading.{isNoName}
 use Rattle.records.proofs.Fits.{Fits, FitsAll}
 use Rattle.rast.specs.Path.{Name, Path, Global, MSel, samePath}
 use Rattle.rast.specs.Operation.{Operation, upstream, straight}
@@ -34,7 +35,7 @@ Kept = leaf 0x03 []
 abbrev named : Name → Record
 named n = node 0x2D (MSel Global n ▸ nil)
 
--- so many of them, each with a name of its own
+-- so many of them, each with a name of its own; the 34th would be called "!"
 abbrev several : ℕ → Records
 several zero = nil
 several (suc n) = named (n ∷ []) ▸ several n
@@ -61,14 +62,14 @@ deepest = blocks 38 (typed (named (replicate 13404 97)))
 abbrev widest : Record
 widest = typed (node 0x33 (node 0x02 (several 33) ▸ nil))
 
-named-fits : (n : Name) → Fits (named n) type
+named-fits : (n : Name) → isNoName n ≡ false → Fits (named n) type
 unfolding Fits rowOf contentAt
-named-fits n = (refl, ((refl, ((refl, tt), ((refl, refl), tt))), tt))
+named-fits n h = (refl, ((refl, ((refl, tt), ((refl, refl, h), tt))), tt))
 
-several-fit : (n : ℕ) → FitsAll (several n) (any type)
+several-fit : (n : ℕ) → n ≤ 33 → FitsAll (several n) (any type)
 unfolding Fits
-several-fit zero = tt
-several-fit (suc n) = (named-fits (n ∷ []), several-fit n)
+several-fit zero l = tt
+several-fit (suc n) l = (named-fits (n ∷ []) (ne-eqb n 33 (λ e. omega arith)), several-fit n (omega arith))
 
 typed-fits : (t : Record) → Fits t type → Fits (typed t) expr
 unfolding Fits rowOf contentAt
@@ -76,7 +77,7 @@ typed-fits t f = (refl, (f, tt))
 
 widest-fits : Fits widest expr
 unfolding Fits rowOf contentAt
-widest-fits = typed-fits (node 0x33 (node 0x02 (several 33) ▸ nil)) (refl, ((refl, several-fit 33), tt))
+widest-fits = typed-fits (node 0x33 (node 0x02 (several 33) ▸ nil)) (refl, ((refl, several-fit 33 (lit≤ tt)), tt))
 
 blocks-fit : (n : ℕ) (e : Record) → Fits e expr → Fits (blocks n e) expr
 unfolding Fits rowOf contentAt
@@ -88,11 +89,11 @@ unfolding Fits rowOf contentAt
 around-fits e f = (
   refl,
   (
-    (refl, refl),
+    (refl, refl, refl),
     (
-      (refl, refl),
+      (refl, refl, refl),
       (
-        (refl, refl),
+        (refl, refl, refl),
         (
           (
             refl,
@@ -103,12 +104,12 @@ around-fits e f = (
                   (
                     refl,
                     (
-                      (refl, refl),
+                      (refl, refl, refl),
                       (
-                        (refl, refl),
+                        (refl, refl, refl),
                         (
-                          (refl, refl),
-                          ((refl, ((refl, refl), ((refl, tt), ((refl, tt), ((refl, tt), ((refl, (f, tt)), tt)))))), tt),
+                          (refl, refl, refl),
+                          ((refl, ((refl, refl, refl), ((refl, tt), ((refl, tt), ((refl, tt), ((refl, (f, tt)), tt)))))), tt),
                         ),
                       ),
                     ),
@@ -149,7 +150,7 @@ sizes = (refl, refl)
 -- so 41 is not a bound where a Fn's types are walked again
 pub not-41 : Within upstream 41 → ⊥
 unfolding deep
-not-41 = larger upstream 41 deepest (blocks-fit 38 _ (typed-fits _ (named-fits (replicate 13404 97)))) (lit≤ tt) (sizes .0)
+not-41 = larger upstream 41 deepest (blocks-fit 38 _ (typed-fits _ (named-fits (replicate 13404 97) refl))) (lit≤ tt) (sizes .0)
 
 -- nor 3 where they are not
 pub not-3 : Within straight 3 → ⊥

@@ -17,12 +17,8 @@ fn name_length(name: &[u8], in_expr: bool) -> usize
     if !in_expr {
         return n;
     }
-    if n == 0 {
-        return n;
-    }
-    let last = n - 1;
-    if name[last] == b'!' {
-        return last;
+    if paths::is_marked(name) {
+        return n - 1;
     }
     n
 }

@@ -1,5 +1,6 @@
-//! Writes the cases of the program test_collecting, one to a line: ROOT CARD WORDS. They are the cards of
-//! own.rs and as many vectors as fit, in their order, and last lines that are no cases.
+//! Writes the cases of the program test_collecting, one to a line: ROOT CARD WORDS. They are the cards
+//! of own.rs and as many vectors of document 01 as fit, in their order, and last lines that are no
+//! cases.
 use std::cmp::Reverse;
 use std::collections::{BTreeMap, HashSet};
 use std::env;
@@ -41,9 +42,9 @@ fn line(root: &[u8], card: &[u8], words: usize) -> String {
 }
 
 fn main() -> ExitCode {
-    let file = env::args().nth(1).ok_or("give a file of vectors".to_string());
-    match file.and_then(|file| text::vectors(&file)) {
-        Ok(vectors) => run(vectors),
+    let folder = env::args().nth(1).ok_or("give a folder of vectors".to_string());
+    match folder.and_then(|folder| text::folder(&folder)) {
+        Ok(files) => run(&files[0].vectors),
         Err(e) => {
             eprintln!("{e}");
             return ExitCode::from(2);
@@ -52,7 +53,7 @@ fn main() -> ExitCode {
     ExitCode::SUCCESS
 }
 
-fn run(vectors: Vec<Vector>) {
+fn run(vectors: &[Vector]) {
     let mut sorts: BTreeMap<String, usize> = BTreeMap::new();
     let mut seen = HashSet::new();
     let mut lines = Vec::new();

@@ -2,15 +2,17 @@
 //! stdout of a folder.
 use std::env;
 use std::fs;
+use std::ops::RangeInclusive;
 use std::process::ExitCode;
 use yardstick::stated::{self, Stated};
 use yardstick::text::{self, digits, Vector};
-use yardstick::{own, tree, walk, Operation, MOST_CARD, MOST_ENTRIES, MOST_TIMES, WORDS};
+use yardstick::{own, tree, walk, Operation, LANDED, MOST_CARD, MOST_ENTRIES, MOST_TIMES, WORDS};
 
 const USAGE: &str = "\
-gate batch VECTORS LISTS STRAIGHT FOLDER    the vectors, cases that document 01 states, the cards of own.rs,
-                                            then cases with lists, and then those of straight shortening
-gate apply FOLDER                           the four cases of TestApply";
+gate batch VECTORS FOLDER  every vector of the folder VECTORS with its latest answer, and cases
+                           whose answers are stated or given alike by the two in Rust; files of
+                           requests that are not answered yet are left out
+gate apply FOLDER          the four cases of TestApply";
 
 const CRATE: [u8; 6] = [2, 0, 0, 0, 0x11, 0];
 
@@ -86,11 +88,10 @@ impl Lines {
     }
 }
 
-/// A case whose answer is stated, without a list.
+/// A case whose answer is stated. None is accepted with a list.
 fn of_stated(operation: Option<Operation>, case: Stated) -> Vector {
-    let Stated { card, out, words, answer, output, .. } = case;
-    let root = CRATE.to_vec();
-    Vector { operation, root, card, out, words, lent: None, answer, output, list: Vec::new() }
+    let Stated { root, card, out, words, lent, answer, output, .. } = case;
+    Vector { operation, root, card, out, words, lent, answer, output, list: Vec::new() }
 }
 
 /// A card of own.rs, lent just what it takes. Its answer is that of the two in Rust, which must agree.
@@ -159,62 +160,8 @@ fn put_own_use(lines: &mut Lines, operation: Operation) {
     lines.put_case(&without_list(&case));
 }
 
-/// The vectors with lists, a card whose own use is that of the pass, and lines that are no such cases.
-fn put_lists(lines: &mut Lines, lists: &str) -> Result<(), String> {
-    text::places(lists)?.iter().for_each(|v| lines.put_case(v));
-    put_own_use(lines, Operation::Upstream);
-    for line in NO_LISTS {
-        lines.put(line, NO_LIST);
-    }
-    Ok(())
-}
-
-/// Cards of own.rs with lists, now and then without one, or with too few bytes or words.
-fn put_own(lines: &mut Lines, operation: Operation, cases: Vec<own::Case>) -> Result<(), String> {
-    for (i, case) in cases.into_iter().enumerate() {
-        let case = of_own(operation, case)?;
-        lines.put_case(&case);
-        if i % 10 == 0 {
-            lines.put_case(&without_list(&case));
-            if !case.output.is_empty() {
-                lines.put_case(&no_space(&case));
-            }
-            if !case.list.is_empty() {
-                lines.put_case(&short_list(&case));
-            }
-        }
-    }
-    Ok(())
-}
-
-/// The vectors of straight shortening, cases whose answers are stated, the cards of own.rs, a card whose own use
-/// is that of the pass, and lines that are no such cases; of what tells the operations apart the old one's too.
-fn put_straight(lines: &mut Lines, straight: &str) -> Result<(), String> {
-    const STRAIGHT: Operation = Operation::Straight;
-    text::straight(straight)?.iter().for_each(|v| lines.put_case(v));
-    for case in stated::limits().into_iter().chain(stated::wrong_ports(STRAIGHT)) {
-        lines.put_case(&of_stated(Some(STRAIGHT), case));
-    }
-    for operation in Operation::BOTH {
-        for case in stated::told_apart(operation) {
-            lines.put_case(&of_stated(Some(operation), case));
-        }
-        put_own(lines, operation, own::differing())?;
-    }
-    put_own(lines, STRAIGHT, own::cases())?;
-    put_own_use(lines, STRAIGHT);
-    // What is past the end of a case.
-    let least = of_stated(Some(STRAIGHT), stated::limits().swap_remove(2));
-    lines.put(&format!("{} = anything", least.question()), &least.answer());
-    for line in NO_STRAIGHTS {
-        lines.put(line, NO_STRAIGHT);
-    }
-    Ok(())
-}
-
-fn batch(vectors: &str, lists: &str, straight: &str, folder: &str) -> Result<(), String> {
-    let mut lines = Lines::default();
-    text::vectors(vectors)?.iter().for_each(|v| lines.put_case(v));
+/// Limits and wrong ports, the cards of own.rs, and lines that are no cases.
+fn put_plain(lines: &mut Lines) -> Result<(), String> {
     for case in stated::limits().into_iter().chain(stated::wrong_ports(Operation::Upstream)) {
         lines.put_case(&of_stated(None, case));
     }
@@ -236,8 +183,91 @@ fn batch(vectors: &str, lists: &str, straight: &str, folder: &str) -> Result<(),
     // Longer than a line may be, and the longest that is one.
     lines.put(&"0".repeat(600_001), NO_CASE);
     lines.put(&format!("- {} 0 {WORDS}", "0".repeat(262_143 - 9)), "2 0");
-    put_lists(&mut lines, lists)?;
-    put_straight(&mut lines, straight)?;
+    Ok(())
+}
+
+/// A card whose own use is that of the pass, and lines that are no cases with lists.
+fn put_lists(lines: &mut Lines) {
+    put_own_use(lines, Operation::Upstream);
+    for line in NO_LISTS {
+        lines.put(line, NO_LIST);
+    }
+}
+
+/// Cards of own.rs with lists, now and then without one, or with too few bytes or words.
+fn put_own(lines: &mut Lines, operation: Operation, cases: Vec<own::Case>) -> Result<(), String> {
+    for (i, case) in cases.into_iter().enumerate() {
+        let case = of_own(operation, case)?;
+        lines.put_case(&case);
+        if i % 10 == 0 {
+            lines.put_case(&without_list(&case));
+            if !case.output.is_empty() {
+                lines.put_case(&no_space(&case));
+            }
+            if !case.list.is_empty() {
+                lines.put_case(&short_list(&case));
+            }
+        }
+    }
+    Ok(())
+}
+
+/// Cases of straight shortening whose answers are stated, the cards of own.rs, a card whose own use is
+/// that of the pass, and lines that are no such cases; of what tells the operations apart the old one's too.
+fn put_straight(lines: &mut Lines) -> Result<(), String> {
+    const STRAIGHT: Operation = Operation::Straight;
+    for case in stated::limits().into_iter().chain(stated::wrong_ports(STRAIGHT)) {
+        lines.put_case(&of_stated(Some(STRAIGHT), case));
+    }
+    for operation in Operation::BOTH {
+        for case in stated::told_apart(operation) {
+            lines.put_case(&of_stated(Some(operation), case));
+        }
+        put_own(lines, operation, own::differing())?;
+    }
+    put_own(lines, STRAIGHT, own::cases())?;
+    put_own_use(lines, STRAIGHT);
+    // What is past the end of a case.
+    let least = of_stated(Some(STRAIGHT), stated::limits().swap_remove(2));
+    lines.put(&format!("{} = anything", least.question()), &least.answer());
+    for line in NO_STRAIGHTS {
+        lines.put(line, NO_STRAIGHT);
+    }
+    Ok(())
+}
+
+/// Paths without a name, by both operations.
+fn put_nameless(lines: &mut Lines) {
+    for operation in Operation::BOTH {
+        for case in stated::nameless() {
+            lines.put_case(&of_stated(Some(operation), case));
+        }
+    }
+}
+
+fn batch(vectors: &str, folder: &str) -> Result<(), String> {
+    let mut lines = Lines::default();
+    let files = text::folder(vectors)?;
+    for file in &files {
+        println!(
+            "{}: {} lines, {} answered otherwise by a later file",
+            file.name,
+            file.vectors.len(),
+            file.changed
+        );
+    }
+    let put_vectors = |lines: &mut Lines, requests: RangeInclusive<u32>| {
+        let of = files.iter().filter(|file| requests.contains(&file.request));
+        of.flat_map(|file| &file.vectors).for_each(|v| lines.put_case(v));
+    };
+    put_vectors(&mut lines, 0..=0);
+    put_plain(&mut lines)?;
+    put_vectors(&mut lines, 1..=1);
+    put_lists(&mut lines);
+    put_vectors(&mut lines, 2..=2);
+    put_straight(&mut lines)?;
+    put_vectors(&mut lines, 3..=LANDED);
+    put_nameless(&mut lines);
     lines.write(folder)
 }
 
@@ -280,7 +310,7 @@ fn main() -> ExitCode {
     let words: Vec<String> = env::args().skip(1).collect();
     let words: Vec<&str> = words.iter().map(String::as_str).collect();
     let done = match words[..] {
-        ["batch", vectors, lists, straight, folder] => batch(vectors, lists, straight, folder),
+        ["batch", vectors, folder] => batch(vectors, folder),
         ["apply", folder] => apply(folder),
         _ => Err(USAGE.to_string()),
     };

@@ -328,7 +328,7 @@ pub fn select<'a>(base: &Rc<Path<'a>>, name: Text<'a>) -> Rc<Path<'a>> {
     Rc::new(Path::Member(base.clone(), name))
 }
 
-/// The card's module and the root's path, or the first of refusals 1 to 7.
+/// The card's module and the root's path, or the first refusal of what is lent and of reading.
 pub fn read<'a>(card: &'a [u8], root: &'a [u8], words: usize) -> Result<(Module<'a>, Rc<Path<'a>>), Refusal> {
     if words < WORDS {
         return Err((1, 0));
@@ -358,7 +358,7 @@ pub fn outermost<'a>(card: &'a [u8], root: &'a [u8], words: usize) -> Result<Map
     }
 }
 
-/// The card's module with its names shortened, or the first of refusals 1 to 8.
+/// The card's module with its names shortened, or the first refusal but 9 and 10.
 fn shortened<'a>(
     operation: Operation,
     card: &'a [u8],

@@ -70,6 +70,15 @@ impl<'a> Records<'a> {
     fn rest(self) -> &'a [u8] {
         &self.bytes[self.at..self.end]
     }
+
+    /// A Text that names something in a path.
+    fn name(&mut self) -> Reading<Text<'a>> {
+        let place = self.at as u32;
+        match self.get()? {
+            Text(b"" | b"!") => Err((11, place)),
+            name => Ok(name),
+        }
+    }
 }
 
 impl<'a> Read<'a> for Text<'a> {
@@ -123,7 +132,7 @@ impl<'a> Read<'a> for Path<'a> {
             0x10 => Path::Global,
             0x11 => Path::Crate,
             0x12 => Path::SelfType,
-            _ => Path::Member(r.get()?, r.get()?),
+            _ => Path::Member(r.get()?, r.name()?),
         };
         r.close()?;
         Ok(path)

@@ -109,8 +109,11 @@ impl<'a> Walk<'a> {
     fn path(&mut self, at: usize, end: usize, levels: u32) -> Option<usize> {
         let (kind, mut inside, stop) = self.head(at, end, PATH.first, PATH.last, levels)?;
         if kind == 0x13 {
-            inside = self.path(inside, stop, levels - 1)?;
-            inside = self.leaf(&TEXT, inside, stop, levels - 1)?;
+            let name = self.path(inside, stop, levels - 1)?;
+            inside = self.leaf(&TEXT, name, stop, levels - 1)?;
+            if let [] | [b'!'] = self.bytes[name + 6..inside] {
+                return self.refuse(11, name);
+            }
         }
         self.finish(inside, stop)?;
         Some(stop)

@@ -8,7 +8,7 @@ use Rattle.reading.specs.Reads.{reads}
 use Rattle.reading.specs.Codes.{rowContent}
 use Rattle.reading.proofs.Rows.{good-valid, row-read}
 use Rattle.reading.proofs.Turns.{Turn, turn-start, turn-end, turn-cut, turn-left, turn-short, turn-wrong, turn-deep, Head, head}
-use Rattle.reading.proofs.Turns.{turn-leaf, turn-empty, turn-hollow, turn-good, turn-last, turn-fault, turn-inner}
+use Rattle.reading.proofs.Turns.{turn-nameless, turn-leaf, turn-empty, turn-hollow, turn-good, turn-last, turn-fault, turn-inner}
 use borrow.Fn.Kinds.{In}
 use borrow.Fn.PlainCycle.{Measures, is, falls, and}
 use Rattle.reading.proofs.read_content.Reads as read-content
@@ -20,6 +20,7 @@ use Rattle.reader.proofs.record_length.Reads as record-length-reads
 use Rattle.reading.proofs.may_end.Reads as may-end-reads
 use Rattle.reading.proofs.row_after.Reads as row-after-reads
 use Rattle.reading.proofs.row_in.Reads as row-in-reads
+use Rattle.rows.proofs.is_nameless.Reads as is-nameless-reads
 use Rattle.rows.proofs.may_stand.Reads as may-stand-reads
 use Rattle.rows.proofs.row_at.Reads as row-at-reads
 use Rattle.reading.proofs.+read_content.{statement}
@@ -58,6 +59,8 @@ calls t = (
   record-length-reads.Learnt,
   row-after-reads.Asked,
   row-after-reads.Learnt,
+  is-nameless-reads.Asked,
+  is-nameless-reads.Learnt,
   row-in-reads.Asked,
   row-in-reads.Learnt,
   row-at-reads.Asked,
@@ -203,13 +206,49 @@ add-result-4 t c =
 returns-4 : (t : ℕ) → lts.Need-returns-4 (calls t) (at-depth t) read-content.Post Inv-loop μ-loop
 returns-4 t c = turn-deep (passed t (c .before .before)) (c .if5 .taken)
 
+add-is-nameless : (t : ℕ) → lts.Need-add-is-nameless (calls t) (at-depth t) read-content.Post Inv-loop μ-loop
+add-is-nameless t c =
+    let row = c .before .before in
+    omega (arith, start-of t row .pre .1 .3, turn-of t row .loop-test .taken)
+
+sub-is-nameless : (t : ℕ) → lts.Need-sub-is-nameless (calls t) (at-depth t) read-content.Post Inv-loop μ-loop
+sub-is-nameless t c = let head = passed t (c .before .before) in head .after-head
+
+part-is-nameless-start : (t : ℕ) → lts.Need-part-is-nameless-start (calls t) (at-depth t) read-content.Post Inv-loop μ-loop
+part-is-nameless-start t c = let head = passed t (c .before .before) in head .after-head
+
+part-is-nameless-end : (t : ℕ) → lts.Need-part-is-nameless-end (calls t) (at-depth t) read-content.Post Inv-loop μ-loop
+part-is-nameless-end t c =
+    let head = passed t (c .before .before) in
+    omega (arith, head .inside, head .whole)
+
+is-nameless-requires : (t : ℕ) → lts.Need-is-nameless-requires (calls t) (at-depth t) read-content.Post Inv-loop μ-loop
+is-nameless-requires t c κs = search needs
+
+mul-result-5 : (t : ℕ) → lts.Need-mul-result-5 (calls t) (at-depth t) read-content.Post Inv-loop μ-loop
+mul-result-5 t c =
+    let row = c .before .before .before .before .before in
+    omega (arith, start-of t row .pre .1 .3, turn-of t row .loop-test .taken)
+
+add-result-5 : (t : ℕ) → lts.Need-add-result-5 (calls t) (at-depth t) read-content.Post Inv-loop μ-loop
+add-result-5 t c =
+    let row = c .before .before .before .before .before in
+    omega (arith, start-of t row .pre .1 .3, turn-of t row .loop-test .taken)
+
+returns-5 : (t : ℕ) → lts.Need-returns-5 (calls t) (at-depth t) read-content.Post Inv-loop μ-loop
+returns-5 t c =
+    let deep = c .before .before .before in
+    turn-nameless (passed t (deep .before .before)) (deep .if5 .left) (c .before .is-nameless .ensures) (c .if6 .taken)
+
 loop-less : (t : ℕ) → lts.Need-loop-less (calls t) (at-depth t) read-content.Post Inv-loop μ-loop
 loop-less t c =
-    let head = passed t (c .before .before) in
+    let head = passed t (c .before .before .before .before .before) in
     omega (arith, head .after-head, head .inside)
 
 loop-again : (t : ℕ) → lts.Need-loop-again (calls t) (at-depth t) read-content.Post Inv-loop μ-loop
-loop-again t c = turn-leaf (passed t (c .before .before)) (c .if5 .left) (c .before .if4 .taken)
+loop-again t c =
+    let deep = c .before .before .before in
+    turn-leaf (passed t (deep .before .before)) (deep .if5 .left) (deep .before .if4 .taken) (c .before .is-nameless .ensures) (c .if6 .left)
 
 row-in-requires : (t : ℕ) → lts.Need-row-in-requires (calls t) (at-depth t) read-content.Post Inv-loop μ-loop
 row-in-requires t c κs =
@@ -217,21 +256,21 @@ row-in-requires t c κs =
     let valid = good-valid _ (turn-of t row .before .loop .inv .good) in
     (valid .small, start-of t row .pre .1 .4)
 
-mul-result-5 : (t : ℕ) → lts.Need-mul-result-5 (calls t) (at-depth t) read-content.Post Inv-loop μ-loop
-mul-result-5 t c =
+mul-result-6 : (t : ℕ) → lts.Need-mul-result-6 (calls t) (at-depth t) read-content.Post Inv-loop μ-loop
+mul-result-6 t c =
     let row = c .before .before .before in
     omega (arith, start-of t row .pre .1 .3, turn-of t row .loop-test .taken)
 
-add-result-5 : (t : ℕ) → lts.Need-add-result-5 (calls t) (at-depth t) read-content.Post Inv-loop μ-loop
-add-result-5 t c =
+add-result-6 : (t : ℕ) → lts.Need-add-result-6 (calls t) (at-depth t) read-content.Post Inv-loop μ-loop
+add-result-6 t c =
     let row = c .before .before .before in
     omega (arith, start-of t row .pre .1 .3, turn-of t row .loop-test .taken)
 
-returns-5 : (t : ℕ) → lts.Need-returns-5 (calls t) (at-depth t) read-content.Post Inv-loop μ-loop
-returns-5 t c = turn-deep (passed t (c .before .before .before)) (c .if6 .taken)
+returns-6 : (t : ℕ) → lts.Need-returns-6 (calls t) (at-depth t) read-content.Post Inv-loop μ-loop
+returns-6 t c = turn-deep (passed t (c .before .before .before)) (c .if7 .taken)
 
-add-if7 : (t : ℕ) → lts.Need-add-if7 (calls t) (at-depth t) read-content.Post Inv-loop μ-loop
-add-if7 t c =
+add-if8 : (t : ℕ) → lts.Need-add-if8 (calls t) (at-depth t) read-content.Post Inv-loop μ-loop
+add-if8 t c =
     let row = c .before .before .before in
     omega (arith, start-of t row .pre .1 .3, turn-of t row .loop-test .taken)
 
@@ -241,25 +280,25 @@ row-at-requires t c κs = search needs
 may-end-requires : (t : ℕ) → lts.Need-may-end-requires (calls t) (at-depth t) read-content.Post Inv-loop μ-loop
 may-end-requires t c κs = search needs
 
-mul-result-6 : (t : ℕ) → lts.Need-mul-result-6 (calls t) (at-depth t) read-content.Post Inv-loop μ-loop
-mul-result-6 t c =
+mul-result-7 : (t : ℕ) → lts.Need-mul-result-7 (calls t) (at-depth t) read-content.Post Inv-loop μ-loop
+mul-result-7 t c =
     let row = c .before .before .before .before .before .before .before in
     let head = passed t row in
     omega (arith, head .inside, start-of t row .pre .1 .3)
 
-add-result-6 : (t : ℕ) → lts.Need-add-result-6 (calls t) (at-depth t) read-content.Post Inv-loop μ-loop
-add-result-6 t c =
+add-result-7 : (t : ℕ) → lts.Need-add-result-7 (calls t) (at-depth t) read-content.Post Inv-loop μ-loop
+add-result-7 t c =
     let row = c .before .before .before .before .before .before .before in
     let head = passed t row in
     omega (arith, head .inside, start-of t row .pre .1 .3)
 
-returns-6 : (t : ℕ) → lts.Need-returns-6 (calls t) (at-depth t) read-content.Post Inv-loop μ-loop
-returns-6 t c =
+returns-7 : (t : ℕ) → lts.Need-returns-7 (calls t) (at-depth t) read-content.Post Inv-loop μ-loop
+returns-7 t c =
     let row = c .before .before .before .before .before .before .before in
     let start = start-of t row in
     let one = c .before .before .before in
-    turn-hollow (passed t row) (one .before .if6 .left) (one .before .before .before .if4 .left) (one .if7 .taken)
-    (row-read (start .args .t .now) _ _ (start .pre .1 .4) (c .before .before .row-at .ensures)) (c .before .may-end .ensures) (c .if8 .taken)
+    turn-hollow (passed t row) (one .before .if7 .left) (one .before .before .before .if4 .left) (one .if8 .taken)
+    (row-read (start .args .t .now) _ _ (start .pre .1 .4) (c .before .before .row-at .ensures)) (c .before .may-end .ensures) (c .if9 .taken)
 
 loop-less-2 : (t : ℕ) → lts.Need-loop-less-2 (calls t) (at-depth t) read-content.Post Inv-loop μ-loop
 loop-less-2 t c =
@@ -271,8 +310,8 @@ loop-again-2 t c =
     let row = c .before .before .before .before .before .before .before in
     let start = start-of t row in
     let one = c .before .before .before in
-    turn-empty (passed t row) (one .before .if6 .left) (one .before .before .before .if4 .left) (one .if7 .taken)
-    (row-read (start .args .t .now) _ _ (start .pre .1 .4) (c .before .before .row-at .ensures)) (c .before .may-end .ensures) (c .if8 .left)
+    turn-empty (passed t row) (one .before .if7 .left) (one .before .before .before .if4 .left) (one .if8 .taken)
+    (row-read (start .args .t .now) _ _ (start .pre .1 .4) (c .before .before .row-at .ensures)) (c .before .may-end .ensures) (c .if9 .left)
 
 may-end-requires-2 : (t : ℕ) → lts.Need-may-end-requires-2 (calls t) (at-depth t) read-content.Post Inv-loop μ-loop
 may-end-requires-2 t c κs = search needs
@@ -294,8 +333,8 @@ loop-again-3 : (t : ℕ) → lts.Need-loop-again-3 (calls t) (at-depth t) read-c
 loop-again-3 t c =
     let more = c .before .before .before in
     let held = more .before .before in
-    turn-last (passed t (held .before .before)) (more .before .if6 .left) (held .before .if4 .left) (more .if7 .left) (held .row-in .ensures)
-    (c .before .before .if9 .taken) (c .before .may-end2 .ensures) (c .if10 .taken)
+    turn-last (passed t (held .before .before)) (more .before .if7 .left) (held .before .if4 .left) (more .if8 .left) (held .row-in .ensures)
+    (c .before .before .if10 .taken) (c .before .may-end2 .ensures) (c .if11 .taken)
 
 add-read-content : (t : ℕ) → lts.Need-add-read-content (calls t) (at-depth t) read-content.Post Inv-loop μ-loop
 add-read-content t c =
@@ -313,8 +352,8 @@ read-content-requires t c κs =
     let start = start-of t row in
     let loop = turn-of t row .before in
     let head = passed t row in
-    let good = turn-good head (more .before .if6 .left) (held .before .if4 .left) (more .if7 .left) (held .row-in .ensures) in (
-      omega (arith, start .pre .0, loop .loop .inv .under, more .before .if6 .left),
+    let good = turn-good head (more .before .if7 .left) (held .before .if4 .left) (more .if8 .left) (held .row-in .ensures) in (
+      omega (arith, start .pre .0, loop .loop .inv .under, more .before .if7 .left),
       (
         good,
         head .after-head,
@@ -324,12 +363,12 @@ read-content-requires t c κs =
       ),
     )
 
-returns-7 : (t : ℕ) → lts.Need-returns-7 (calls t) (at-depth t) read-content.Post Inv-loop μ-loop
-returns-7 t c =
+returns-8 : (t : ℕ) → lts.Need-returns-8 (calls t) (at-depth t) read-content.Post Inv-loop μ-loop
+returns-8 t c =
     let more = c .before .before .before in
     let held = more .before .before in
-    turn-fault (passed t (held .before .before)) (more .before .if6 .left) (held .before .if4 .left) (more .if7 .left) (held .row-in .ensures)
-    (c .before .read-content .ensures) (c .if11 .taken)
+    turn-fault (passed t (held .before .before)) (more .before .if7 .left) (held .before .if4 .left) (more .if8 .left) (held .row-in .ensures)
+    (c .before .read-content .ensures) (c .if12 .taken)
 
 loop-less-4 : (t : ℕ) → lts.Need-loop-less-4 (calls t) (at-depth t) read-content.Post Inv-loop μ-loop
 loop-less-4 t c =
@@ -340,33 +379,33 @@ loop-again-4 : (t : ℕ) → lts.Need-loop-again-4 (calls t) (at-depth t) read-c
 loop-again-4 t c =
     let more = c .before .before .before in
     let held = more .before .before in
-    turn-inner (passed t (held .before .before)) (more .before .if6 .left) (held .before .if4 .left) (more .if7 .left) (held .row-in .ensures)
-    (c .before .read-content .ensures) (c .if11 .left)
+    turn-inner (passed t (held .before .before)) (more .before .if7 .left) (held .before .if4 .left) (more .if8 .left) (held .row-in .ensures)
+    (c .before .read-content .ensures) (c .if12 .left)
 
 may-end-requires-3 : (t : ℕ) → lts.Need-may-end-requires-3 (calls t) (at-depth t) read-content.Post Inv-loop μ-loop
 may-end-requires-3 t c κs = search needs
 
-returns-8 : (t : ℕ) → lts.Need-returns-8 (calls t) (at-depth t) read-content.Post Inv-loop μ-loop
-returns-8 t c =
-    let loop = c .before .before .before in
-    turn-end (loop .loop .inv) (c .before .before .loop-test .left) (c .before .may-end3 .ensures) (c .if12 .taken)
-
-mul-result-7 : (t : ℕ) → lts.Need-mul-result-7 (calls t) (at-depth t) read-content.Post Inv-loop μ-loop
-mul-result-7 t c =
-    let loop = c .before .before .before in
-    let start = loop .before .before in
-    omega (arith, loop .loop .inv .inside, start .pre .1 .3)
-
-add-result-7 : (t : ℕ) → lts.Need-add-result-7 (calls t) (at-depth t) read-content.Post Inv-loop μ-loop
-add-result-7 t c =
-    let loop = c .before .before .before in
-    let start = loop .before .before in
-    omega (arith, loop .loop .inv .inside, start .pre .1 .3)
-
 returns-9 : (t : ℕ) → lts.Need-returns-9 (calls t) (at-depth t) read-content.Post Inv-loop μ-loop
 returns-9 t c =
     let loop = c .before .before .before in
-    turn-cut (loop .loop .inv) (c .before .before .loop-test .left) (c .before .may-end3 .ensures) (c .if12 .left)
+    turn-end (loop .loop .inv) (c .before .before .loop-test .left) (c .before .may-end3 .ensures) (c .if13 .taken)
+
+mul-result-8 : (t : ℕ) → lts.Need-mul-result-8 (calls t) (at-depth t) read-content.Post Inv-loop μ-loop
+mul-result-8 t c =
+    let loop = c .before .before .before in
+    let start = loop .before .before in
+    omega (arith, loop .loop .inv .inside, start .pre .1 .3)
+
+add-result-8 : (t : ℕ) → lts.Need-add-result-8 (calls t) (at-depth t) read-content.Post Inv-loop μ-loop
+add-result-8 t c =
+    let loop = c .before .before .before in
+    let start = loop .before .before in
+    omega (arith, loop .loop .inv .inside, start .pre .1 .3)
+
+returns-10 : (t : ℕ) → lts.Need-returns-10 (calls t) (at-depth t) read-content.Post Inv-loop μ-loop
+returns-10 t c =
+    let loop = c .before .before .before in
+    turn-cut (loop .loop .inv) (c .before .before .loop-test .left) (c .before .may-end3 .ensures) (c .if13 .left)
 
 pub +read-content-spec : {M : Type 1} → statement M
 +read-content-spec = close μ-read-content λ t. lts.spec (calls t)
@@ -397,18 +436,26 @@ pub +read-content-spec : {M : Type 1} → statement M
     (mul-result-4 t)
     (add-result-4 t)
     (returns-4 t)
-    (loop-less t)
-    (loop-again t)
-    (row-in-requires t)
+    (add-is-nameless t)
+    (sub-is-nameless t)
+    (part-is-nameless-start t)
+    (part-is-nameless-end t)
+    (is-nameless-requires t)
     (mul-result-5 t)
     (add-result-5 t)
     (returns-5 t)
-    (add-if7 t)
-    (row-at-requires t)
-    (may-end-requires t)
+    (loop-less t)
+    (loop-again t)
+    (row-in-requires t)
     (mul-result-6 t)
     (add-result-6 t)
     (returns-6 t)
+    (add-if8 t)
+    (row-at-requires t)
+    (may-end-requires t)
+    (mul-result-7 t)
+    (add-result-7 t)
+    (returns-7 t)
     (loop-less-2 t)
     (loop-again-2 t)
     (may-end-requires-2 t)
@@ -419,11 +466,11 @@ pub +read-content-spec : {M : Type 1} → statement M
     (add-read-content t)
     (sub-read-content t)
     (read-content-requires t)
-    (returns-7 t)
+    (returns-8 t)
     (loop-less-4 t)
     (loop-again-4 t)
     (may-end-requires-3 t)
-    (returns-8 t)
-    (mul-result-7 t)
-    (add-result-7 t)
     (returns-9 t)
+    (mul-result-8 t)
+    (add-result-8 t)
+    (returns-10 t)

@@ -1,10 +1,12 @@
 -- `replacement::replaces_expr` meets its contract. Assumes nothing.
-use mathlib.Core.Path.{sym}
+use mathlib.Core.Path.{sym, _∙_}
 use native.Mathlib.Nat.{min-eq-left}
 use native.Mathlib.Omega.{arith}
 use lib.ListN.{length-take}
+use borrow.Author.Tests.{not-false}
+use Rattle.paths.proofs.Marks.{marked-some}
 use Rattle.prefix.specs.Prefix.{scope}
-use Rattle.replacement.proofs.Tests.{expr-other, expr-whole, expr-empty, expr-plain, expr-marked}
+use Rattle.replacement.proofs.Tests.{expr-other, expr-whole, expr-plain, expr-marked}
 use borrow.Author.Needs.{needs}
 use Rattle.replacement.proofs.replaces_expr.Statement.{statement}
 use Rattle.replacement.proofs.replaces_expr.Tie as tie
@@ -54,42 +56,27 @@ returns-2 c =
     (args .r .now) _ _ (content .ensures) (record-kind .ensures .0)
     (if1 .left) _ _ (name-in .ensures) (base-in .ensures) _ (replaces .ensures) (if2 .taken)
 
+is-marked-requires : tie.Need-is-marked-requires
+is-marked-requires c κs = search needs
+
 returns-3 : tie.Need-returns-3
 returns-3 c =
-    let args = c .before .before .before .before .before .before .before .before .before .before .before .before .before .args in
-    let content = c .before .before .before .before .before .before .before .content in
-    let record-kind = c .before .before .before .before .before .before .record-kind in
-    let if1 = c .before .before .before .before .before .if1 in
-    let name-in = c .before .before .before .before .name-in in
-    let base-in = c .before .before .before .base-in in
-    let replaces = c .before .before .replaces in
-    let if2 = c .before .if2 in
-    let if3 = c .if3 in
-    expr-empty (scope (args .op) (args .card .now) (args .root .now) (args .chain .now)) (args .work .now)
-    (args .r .now) _ _ (content .ensures) (record-kind .ensures .0)
-    (if1 .left) _ _ (name-in .ensures) (base-in .ensures) _ (replaces .ensures) (if2 .left) (if3 .taken)
-
-sub-last : tie.Need-sub-last
-sub-last c = search needs
-
-shared-slice-read-if4 : tie.Need-shared-slice-read-if4
-shared-slice-read-if4 c = search needs
-
-returns-4 : tie.Need-returns-4
-returns-4 c =
-    let args = c .before .before .before .before .before .before .before .before .before .before .before .before .before .before .before .args in
-    let content = c .before .before .before .before .before .before .before .before .before .content in
-    let record-kind = c .before .before .before .before .before .before .before .before .record-kind in
-    let if1 = c .before .before .before .before .before .before .before .if1 in
-    let name-in = c .before .before .before .before .before .before .name-in in
-    let base-in = c .before .before .before .before .before .base-in in
-    let replaces = c .before .before .before .before .replaces in
-    let if2 = c .before .before .before .if2 in
-    let if3 = c .before .before .if3 in
-    let if4 = c .if4 in
+    let tried = c .before .before in
+    let found = tried .before in
+    let other = found .before .before .before in
+    let kind = other .before in
+    let args = kind .before .before .before .before .before .before .before .args in
     expr-plain (scope (args .op) (args .card .now) (args .root .now) (args .chain .now)) (args .work .now)
-    (args .r .now) _ _ (content .ensures) (record-kind .ensures .0)
-    (if1 .left) _ _ (name-in .ensures) (base-in .ensures) _ (replaces .ensures) (if2 .left) (if3 .left) (if4 .taken)
+    (args .r .now) _ _ (kind .before .content .ensures) (kind .record-kind .ensures .0)
+    (other .if1 .left) _ _ (found .before .before .name-in .ensures) (found .before .base-in .ensures) _
+    (found .replaces .ensures) (tried .if2 .left) _ (c .before .is-marked .ensures) (c .if3 .taken)
+
+-- a marked name is not empty
+sub-last : tie.Need-sub-last
+sub-last c =
+    let name = c .before .before .before .before .before .name-in .result .now in
+    let some = marked-some name (sym (c .before .is-marked .ensures) ∙ not-false _ (c .if3 .left)) in
+    omega arith
 
 slice-aggregate-replaces : tie.Need-slice-aggregate-replaces
 slice-aggregate-replaces c = simp length-take (sym (min-eq-left (omega arith)))
@@ -97,23 +84,18 @@ slice-aggregate-replaces c = simp length-take (sym (min-eq-left (omega arith)))
 replaces-requires-2 : tie.Need-replaces-requires-2
 replaces-requires-2 c κs = search needs
 
-returns-5 : tie.Need-returns-5
-returns-5 c =
-    let args = c .before .before .before .before .before .before .before .before .before .before
-    .before .before .before .before .before .before .before .args in
-    let content = c .before .before .before .before .before .before .before .before .before .before .before .content in
-    let record-kind = c .before .before .before .before .before .before .before .before .before .before .record-kind in
-    let if1 = c .before .before .before .before .before .before .before .before .before .if1 in
-    let name-in = c .before .before .before .before .before .before .before .before .name-in in
-    let base-in = c .before .before .before .before .before .before .before .base-in in
-    let replaces = c .before .before .before .before .before .before .replaces in
-    let if2 = c .before .before .before .before .before .if2 in
-    let if3 = c .before .before .before .before .if3 in
-    let if4 = c .before .before .if4 in
-    let replaces2 = c .replaces2 in
+returns-4 : tie.Need-returns-4
+returns-4 c =
+    let mark = c .before .before in
+    let tried = mark .before .before in
+    let found = tried .before in
+    let other = found .before .before .before in
+    let kind = other .before in
+    let args = kind .before .before .before .before .before .before .before .args in
     expr-marked (scope (args .op) (args .card .now) (args .root .now) (args .chain .now)) (args .work .now)
-    (args .r .now) _ _ (content .ensures) (record-kind .ensures .0)
-    (if1 .left) _ _ (name-in .ensures) (base-in .ensures) _ (replaces .ensures) (if2 .left) (if3 .left) (if4 .left) _ (replaces2 .ensures)
+    (args .r .now) _ _ (kind .before .content .ensures) (kind .record-kind .ensures .0)
+    (other .if1 .left) _ _ (found .before .before .name-in .ensures) (found .before .base-in .ensures) _
+    (found .replaces .ensures) (tried .if2 .left) _ (mark .before .is-marked .ensures) (mark .if3 .left) _ (c .replaces2 .ensures)
 
 pub replaces-expr-spec : {M : Type 1} → statement M
 replaces-expr-spec =
@@ -126,10 +108,9 @@ replaces-expr-spec =
     base-in-requires
     replaces-requires
     returns-2
+    is-marked-requires
     returns-3
     sub-last
-    shared-slice-read-if4
-    returns-4
     slice-aggregate-replaces
     replaces-requires-2
-    returns-5)
+    returns-4)

@@ -8,7 +8,7 @@ use lib.Dec.{eqb, lit≤}
 use borrow.Author.Tests.{eqb-true, le-leb}
 use Rattle.records.specs.Record.{Record, Records, leaf, node, nil, _▸_, kind, children, nth, field, isLeaf, FoldLeft}
 use Rattle.records.specs.Kinds.{Place, kinds, one, seq, option, stands, path, type, expr, mod′, rowOf, Content, bytes, these, any, atMostOne, contentAt}
-use Rattle.records.proofs.Fits.{Fits, FitsAll}
+use Rattle.records.proofs.Fits.{Stands, StandsAll, Fits, FitsAll}
 use Rattle.records.proofs.Closed.{Of, OfAll, closed, fits-of}
 use Rattle.records.proofs.Run.{_⨾_, in-run, within}
 use Rattle.records.proofs.Step.{content-leaf, ofBytes-true}
@@ -68,7 +68,7 @@ quiet-visited k e =
     P k = visitedAs k ≡ holds
 
 quiet-below : (k : ℕ) (c : Records) (p : Place) → quietKind k ≡ true → Fits (node k c) p → OfAll quietKind c
-unfolding Fits Of
+unfolding Stands Of
 quiet-below k c p e f =
     by-either (isLeaf k) (stands path k) e
     (λ e. absurd (no-records c (rw (ofBytes-true (contentAt p k) (content-leaf p k (f .0) ∙ e)) at (f .1))))
@@ -176,7 +176,7 @@ module _ {T : Type 0} (this : RASTTopDownVisitor T) (SelfPath : Path) where
     itself other acc r g h e l = sym (l refl)
 
     mutual
-      unfolding Fold collects Fits FitsAll Each Of
+      unfolding Fold collects Stands StandsAll Each Of
 
       fold-collects : (r : Record) (p : Place) → Fits r p → Of q r → (acc : T) → F acc r ≡ C acc r
       fold-collects (leaf k b) p fit o acc = refl
@@ -230,7 +230,7 @@ module _ {T : Type 0} (this : RASTTopDownVisitor T) (SelfPath : Path) where
   -- FoldLeft over a seq and over an Option
   module _ (p : Place) {F : T → Record → T} (each : At p F) where
     list-collects : (i : ℕ) (c : Records) → FitsAll c (any p) → (acc : T) → FoldLeft F acc c ≡ CAll 0x02 i acc c
-    unfolding FitsAll FoldLeft collectsAll
+    unfolding StandsAll FoldLeft collectsAll
     list-collects i nil f acc = refl
     list-collects i (r ▸ c) f acc = each r (f .0) acc ▹ list-collects (suc i) c (f .1)
 

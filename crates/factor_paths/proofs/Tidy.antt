@@ -8,7 +8,7 @@ use lib.Dec.{eqb, leb, lit≤}
 use borrow.Author.Tests.{eqb-true}
 use Rattle.records.specs.Record.{Record, Records, leaf, node, nil, _▸_, kind, text, children, nth, field, is}
 use Rattle.records.specs.Kinds.{Place, kinds, name, stands, path, type, expr, Content, bytes, these, any, atMostOne, rowOf, contentAt}
-use Rattle.records.proofs.Fits.{Fits, FitsAll}
+use Rattle.records.proofs.Fits.{Stands, StandsAll, Fits, FitsAll}
 use Rattle.records.proofs.Run.{Run, in-run}
 use Rattle.records.proofs.Leaves.{fits-stands, name-right, NodeAt, node-at, these-no-bytes}
 use Rattle.records.proofs.ByRow.{row-content}
@@ -78,7 +78,7 @@ unfoldable mutual
 
 -- a PMemberSelect that fits is spelled as MSel spells it
 spelled-path : (r : Record) → Fits r path → is 0x13 r ≡ true → r ≡ MSel (field 0 r) (text (field 1 r))
-unfolding contentAt rowOf FitsAll nth
+unfolding contentAt rowOf StandsAll nth
 spelled-path r f e =
     let h : NodeAt r 0x13 (these (path ∷ name ∷ [])) = node-at r path 0x13 (these (path ∷ name ∷ [])) e refl (these-no-bytes (path ∷ name ∷ [])) f in
     h .is-node ∙ ap (node 0x13) (two (children r) (h .fits))
@@ -90,7 +90,7 @@ spelled-path r f e =
     two (r ▸ s ▸ t ▸ c) f = absurd (f .1 .1)
 
 path-in : (c : Records) → FitsAll c (these (path ∷ [])) → PathIn c
-unfolding FitsAll
+unfolding StandsAll
 path-in nil f = absurd f
 path-in (r ▸ nil) f = record { held = r; only = refl; stands-path = fits-stands r path (f .0); spelled = spelled-path r (f .0) }
 path-in (r ▸ s ▸ c) f = absurd (f .1)
@@ -108,7 +108,7 @@ path-row p k e s = go (eqb k 0x2D) refl e
     go false a e = at 0x5C (lit≤ tt) refl (eqb-true k 0x5C e)
 
 mutual
-  unfolding Fits FitsAll Paths
+  unfolding Stands StandsAll Paths
 
   pub fits-paths : (r : Record) (p : Place) → Fits r p → Paths r
   fits-paths (leaf k b) p f = tt

@@ -12,7 +12,7 @@ use Rattle.wire.specs.Numbers.{Bytes}
 use Rattle.records.specs.Record.{Record, Records, leaf, node, nil, _▸_, encodeAll, contentOf, kind, text, children, nth, field, is, skip}
 use Rattle.records.specs.Kinds.{Place, kinds, one, seq, type, rowOf, these, contentAt}
 use Rattle.records.specs.Canonical.{Canonical}
-use Rattle.records.proofs.Fits.{Fits, FitsAll}
+use Rattle.records.proofs.Fits.{StandsAll, Fits, FitsAll}
 use Rattle.records.proofs.Run.{_⨾_}
 use Rattle.records.proofs.Leaves.{fits-stands, leaf-right, one-kind, NodeAt, node-at, these-no-bytes}
 use Rattle.records.proofs.ByRow.{by-kinds, by-is}
@@ -70,7 +70,7 @@ abbrev Third : Record → Type 0
 Third r = Canonical r → Named (encodeAll (r ▸ nil)) (6 + offsetOf 2 (drop 6 (encodeAll (r ▸ nil)))) (text (field 2 r))
 
 third : (k : ℕ) (ps : List Place) → contentAt (one k) k ≡ these (one 0x01 ∷ one 0x03 ∷ one 0x01 ∷ ps) → (r : Record) → Fits r (one k) → Third r
-unfolding FitsAll nth
+unfolding StandsAll nth
 third k ps e r f =
     let a : NodeAt r k (these (one 0x01 ∷ one 0x03 ∷ one 0x01 ∷ ps)) = node-at r (one k) k (these (one 0x01 ∷ one 0x03 ∷ one 0x01 ∷ ps))
     (eq-eqb (kind r) k (one-kind k (kind r) (fits-stands r (one k) f))) e (these-no-bytes _) f in

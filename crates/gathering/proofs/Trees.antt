@@ -16,7 +16,7 @@ use Rattle.records.specs.Kinds.{Place, kinds, stands, type, expr, mod′, Conte
 use Rattle.records.specs.Reading.{short}
 use Rattle.records.specs.Canonical.{Canonical, CanonicalAll}
 use Rattle.records.proofs.Tree.{encode-six, record-length}
-use Rattle.records.proofs.Fits.{Fits, FitsAll}
+use Rattle.records.proofs.Fits.{Stands, StandsAll, Fits, FitsAll}
 use Rattle.records.proofs.Run.{within}
 use Rattle.records.proofs.ByRow.{fits-there}
 use Rattle.records.proofs.FitsRead.{Comes, fits-next}
@@ -200,7 +200,7 @@ module _ (s : Scope) {T : Type 0} (add : T → (at len base : ℕ) → T) (R : T
     itself holds e = r
 
   mutual
-    unfolding gather gatherEach gatherSelf collects spansOf Fits FitsAll Canonical deep
+    unfolding gather gatherEach gatherSelf collects spansOf Stands StandsAll Canonical deep
 
     -- a record that fits any place
     walks : (r : Record) (left : ℕ) (p : Place) → Fits r p → Canonical r → deep r ≤ left → (from : ℕ) → Starts card from r → (t : T) (a : Mapping) → R t a

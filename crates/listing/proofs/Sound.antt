@@ -14,7 +14,7 @@ use Rattle.records.specs.Kinds.{Place, kinds, one, mod′, Content, contentAt, 
 use Rattle.records.specs.Canonical.{Canonical, CanonicalAll}
 use Rattle.records.proofs.Tree.{record-length}
 use Rattle.records.proofs.Front.{encode-content, encode-rest}
-use Rattle.records.proofs.Fits.{Fits, FitsAll}
+use Rattle.records.proofs.Fits.{Stands, Fits, FitsAll}
 use Rattle.records.proofs.FitsRead.{fits-next}
 use Rattle.records.proofs.Leaves.{leaf-right, one-kind}
 use Rattle.records.proofs.ByRow.{fits-there}
@@ -180,7 +180,7 @@ module _ (op : Operation) where
 
       other-sound : (eqb k 0x2D && eqb j 0x37) ≡ false → (eqb k 0x5C && eqb j 0x42) ≡ false → eqb k 0x60 ≡ false
           → recordPlaces (suc depth) at (encode (node k c)) (encode (node j d)) ≡ placesOf at (node k c) (node j d)
-      unfolding recordPlaces placesOf Point Canonical deep Fits
+      unfolding recordPlaces placesOf Point Canonical deep Stands
       other-sound t u v =
           let h : (j ≡ k) × Points op m c d = rw (t, u, v) at q in
           rw (

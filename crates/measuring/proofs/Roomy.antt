@@ -13,7 +13,7 @@ use Rattle.wire.proofs.Numbers.{are-bytes}
 use Rattle.records.specs.Record.{Record, Records, leaf, node, nil, _▸_, encode, encodeAll, contentOf, restOf, kindOf, tree, deep, is}
 use Rattle.records.specs.Kinds.{kinds, any}
 use Rattle.records.specs.Canonical.{Canonical, CanonicalAll}
-use Rattle.records.proofs.Fits.{FitsAll}
+use Rattle.records.proofs.Fits.{StandsAll, FitsAll}
 use Rattle.rast.specs.Path.{Path}
 use Rattle.rast.proofs.Tests.{by-test}
 use Rattle.factor_paths.specs.Apply.{apply}
@@ -54,7 +54,7 @@ few-first most d c h e =
 -- where none is, no module in them has a full table
 nested-none : (op : Shortening) (most n : ℕ) (S : Path) (c : Records) → FitsAll c (any (kinds 0x62 0x6A)) → CanonicalAll c → areFew most (encodeEach c) ≡ true
     → (at : ℕ) → firstIn (inDecl (operationOf op) most n S) c at ≡ none
-unfolding firstIn FitsAll Canonical
+unfolding firstIn StandsAll Canonical
 nested-none op most n S nil f h e at = refl
 nested-none op most n S (d ▸ c) f h e at =
     let w = few-first most d c (h .0) e in

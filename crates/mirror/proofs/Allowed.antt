@@ -25,6 +25,7 @@ use Rattle.mirror.proofs.Exprs.{Formal·codec, Expr·codec}
 use Rattle.mirror.proofs.Decls.{TypeParamDecl·codec, Field·codec, NamelessField·codec, Fields·codec, Struct·codec, TypeSynonym·codec, Constant·codec}
 use Rattle.mirror.proofs.Decls.{EnumCase·codec, Enum·codec, Fn·codec, ImplMember·codec, Impl·codec, Trait·codec, TopFnDecl·codec, Use·codec}
 use Rattle.mirror.proofs.Mods.{Mod·codec}
+use Rattle.records.proofs.Fits.{Stands, StandsAll}
 use Rattle.mirror.proofs.Fits.{Allowed, AllowedAll}
 
 -- every tree of a datatype is allowed at its place
@@ -32,42 +33,42 @@ abbrev pub Stand : {A : Type 0} → Codec A → Type 0
 Stand {A} C = (x : A) → Allowed (C .tree x) (C .place)
 
 pub text·allowed : Stand text·codec
-unfolding Allowed
-text·allowed b = (refl, text-holds)
+unfolding Stands
+text·allowed b = (refl, text-holds, refl)
 
 pub kept·allowed : Stand kept·codec
-unfolding Allowed
-kept·allowed b = (refl, kept-holds)
+unfolding Stands
+kept·allowed b = (refl, kept-holds, refl)
 
 pub name·allowed : Stand name·codec
-unfolding Allowed
-name·allowed b = (refl, name-holds)
+unfolding Stands
+name·allowed b = (refl, name-holds, refl)
 
 -- the seq and the Option of a datatype
 module _ {A : Type 0} (C : Codec A) (each : Stand C) where
   trees·allowed : (xs : List A) → AllowedAll (trees (C .tree) xs) (any (C .place))
-  unfolding AllowedAll trees
+  unfolding StandsAll trees
   trees·allowed [] = tt
   trees·allowed (x ∷ xs) = each x ⨾ trees·allowed xs
 
   pub seq·allowed : Stand (seq·codec C)
-  unfolding Allowed contentAt
+  unfolding Stands contentAt
   seq·allowed xs = refl ⨾ trees·allowed xs
 
   pub option·allowed : Stand (option·codec C)
-  unfolding Allowed AllowedAll contentAt
+  unfolding Stands StandsAll contentAt
   option·allowed none = refl ⨾ tt
   option·allowed (some x) = refl ⨾ each x ⨾ tt
 
 pub Path·allowed : Stand Path·codec
-unfolding Allowed AllowedAll contentAt rowOf Path·tree
+unfolding Stands StandsAll contentAt rowOf Path·tree
 Path·allowed Global = refl ⨾ tt
 Path·allowed Crate = refl ⨾ tt
 Path·allowed Self = refl ⨾ tt
 Path·allowed (PMemberSelect base name) = refl ⨾ Path·allowed base ⨾ name·allowed name ⨾ tt
 
 mutual
-  unfolding Allowed AllowedAll contentAt rowOf Type·tree Types·trees
+  unfolding Stands StandsAll contentAt rowOf Type·tree Types·trees
 
   pub Type·allowed : Stand Type·codec
   Type·allowed U8 = refl ⨾ tt
@@ -104,14 +105,14 @@ optType·allowed : Stand (option·codec Type·codec)
 optType·allowed = option·allowed Type·codec Type·allowed
 
 pub Formal·allowed : Stand Formal·codec
-unfolding Allowed AllowedAll contentAt rowOf Formal·tree
+unfolding Stands StandsAll contentAt rowOf Formal·tree
 Formal·allowed (Formal′ name tpe) = refl ⨾ text·allowed name ⨾ Type·allowed tpe ⨾ tt
 
 formals·allowed : Stand (seq·codec Formal·codec)
 formals·allowed = seq·allowed Formal·codec Formal·allowed
 
 mutual
-  unfolding Allowed AllowedAll contentAt rowOf Expr·tree Exprs·trees OptExpr·tree MatchCase·tree MatchCases·trees AssignIdentifier·tree AssignIdentifiers·trees
+  unfolding Stands StandsAll contentAt rowOf Expr·tree Exprs·trees OptExpr·tree MatchCase·tree MatchCases·trees AssignIdentifier·tree AssignIdentifiers·trees
 
   pub Expr·allowed : Stand Expr·codec
   Expr·allowed (RawExpr content) = refl ⨾ text·allowed content ⨾ tt
@@ -170,58 +171,58 @@ mutual
   AssignIdentifiers·allowed (a ∷ᵃ as′) = refl ⨾ AssignIdentifier·allowed a ⨾ AssignIdentifiers·allowed as′ .1
 
 pub TypeParamDecl·allowed : Stand TypeParamDecl·codec
-unfolding Allowed AllowedAll contentAt rowOf TypeParamDecl·tree
+unfolding Stands StandsAll contentAt rowOf TypeParamDecl·tree
 TypeParamDecl·allowed (TypeParamDecl′ name constraints) = refl ⨾ text·allowed name ⨾ Types·allowed constraints ⨾ tt
 
 typeParams·allowed : Stand (seq·codec TypeParamDecl·codec)
 typeParams·allowed = seq·allowed TypeParamDecl·codec TypeParamDecl·allowed
 
 pub Field·allowed : Stand Field·codec
-unfolding Allowed AllowedAll contentAt rowOf Field·tree
+unfolding Stands StandsAll contentAt rowOf Field·tree
 Field·allowed (Field′ visibility formal) = refl ⨾ kept·allowed visibility ⨾ Formal·allowed formal ⨾ tt
 
 pub NamelessField·allowed : Stand NamelessField·codec
-unfolding Allowed AllowedAll contentAt rowOf NamelessField·tree
+unfolding Stands StandsAll contentAt rowOf NamelessField·tree
 NamelessField·allowed (NamelessField′ visibility tpe) = refl ⨾ kept·allowed visibility ⨾ Type·allowed tpe ⨾ tt
 
 pub Fields·allowed : Stand Fields·codec
-unfolding Allowed AllowedAll contentAt rowOf Fields·tree
+unfolding Stands StandsAll contentAt rowOf Fields·tree
 Fields·allowed (NamedFields fields) = refl ⨾ seq·allowed Field·codec Field·allowed fields ⨾ tt
 Fields·allowed (NamelessFields types) = refl ⨾ seq·allowed NamelessField·codec NamelessField·allowed types ⨾ tt
 
 pub Struct·allowed : Stand Struct·codec
-unfolding Allowed AllowedAll contentAt rowOf Struct·tree
+unfolding Stands StandsAll contentAt rowOf Struct·tree
 Struct·allowed (Struct′ docString attributes name typeParams fields) =
     refl ⨾ text·allowed docString ⨾ kept·allowed attributes ⨾ text·allowed name ⨾ typeParams·allowed typeParams ⨾ Fields·allowed fields ⨾ tt
 
 pub TypeSynonym·allowed : Stand TypeSynonym·codec
-unfolding Allowed AllowedAll contentAt rowOf TypeSynonym·tree
+unfolding Stands StandsAll contentAt rowOf TypeSynonym·tree
 TypeSynonym·allowed (TypeSynonym′ docString attributes name typeParams tpe) =
     refl ⨾ text·allowed docString ⨾ kept·allowed attributes ⨾ text·allowed name ⨾ typeParams·allowed typeParams ⨾ Type·allowed tpe ⨾ tt
 
 pub Constant·allowed : Stand Constant·codec
-unfolding Allowed AllowedAll contentAt rowOf Constant·tree
+unfolding Stands StandsAll contentAt rowOf Constant·tree
 Constant·allowed (Constant′ docString attributes name tpe value) =
     refl ⨾ text·allowed docString ⨾ kept·allowed attributes ⨾ text·allowed name ⨾ Type·allowed tpe ⨾ Expr·allowed value ⨾ tt
 
 pub EnumCase·allowed : Stand EnumCase·codec
-unfolding Allowed AllowedAll contentAt rowOf EnumCase·tree
+unfolding Stands StandsAll contentAt rowOf EnumCase·tree
 EnumCase·allowed (EnumCase′ docString name fields) = refl ⨾ text·allowed docString ⨾ text·allowed name ⨾ Fields·allowed fields ⨾ tt
 
 pub Enum·allowed : Stand Enum·codec
-unfolding Allowed AllowedAll contentAt rowOf Enum·tree
+unfolding Stands StandsAll contentAt rowOf Enum·tree
 Enum·allowed (Enum′ docString attributes name typeParams variants) =
     refl ⨾ text·allowed docString ⨾ kept·allowed attributes ⨾ text·allowed name ⨾ typeParams·allowed typeParams
     ⨾ seq·allowed EnumCase·codec EnumCase·allowed variants ⨾ tt
 
 pub Fn·allowed : Stand Fn·codec
-unfolding Allowed AllowedAll contentAt rowOf Fn·tree
+unfolding Stands StandsAll contentAt rowOf Fn·tree
 Fn·allowed (Fn′ name typeParams formals returnType body) =
     refl ⨾ text·allowed name ⨾ typeParams·allowed typeParams ⨾ formals·allowed formals ⨾ optType·allowed returnType
     ⨾ option·allowed Expr·codec Expr·allowed body ⨾ tt
 
 pub ImplMember·allowed : Stand ImplMember·codec
-unfolding Allowed AllowedAll contentAt rowOf ImplMember·tree
+unfolding Stands StandsAll contentAt rowOf ImplMember·tree
 ImplMember·allowed (RawImplMember content) = refl ⨾ text·allowed content ⨾ tt
 ImplMember·allowed (TypeDeclMember name rhs) = refl ⨾ text·allowed name ⨾ Type·allowed rhs ⨾ tt
 ImplMember·allowed (FnDecl docString attributes «pub» fun) = refl ⨾ text·allowed docString ⨾ kept·allowed attributes ⨾ kept·allowed «pub» ⨾ Fn·allowed fun ⨾ tt
@@ -231,27 +232,27 @@ members·allowed : Stand (seq·codec ImplMember·codec)
 members·allowed = seq·allowed ImplMember·codec ImplMember·allowed
 
 pub Impl·allowed : Stand Impl·codec
-unfolding Allowed AllowedAll contentAt rowOf Impl·tree
+unfolding Stands StandsAll contentAt rowOf Impl·tree
 Impl·allowed (ImplFor typeParams tpe forType body) = refl ⨾ typeParams·allowed typeParams ⨾ Type·allowed tpe ⨾ Type·allowed forType ⨾ members·allowed body ⨾ tt
 Impl·allowed (Impl′ typeParams tpe body) = refl ⨾ typeParams·allowed typeParams ⨾ Type·allowed tpe ⨾ members·allowed body ⨾ tt
 
 pub Trait·allowed : Stand Trait·codec
-unfolding Allowed AllowedAll contentAt rowOf Trait·tree
+unfolding Stands StandsAll contentAt rowOf Trait·tree
 Trait·allowed (Trait′ docString attributes typeParams tpe parents body) =
     refl ⨾ text·allowed docString ⨾ kept·allowed attributes ⨾ typeParams·allowed typeParams ⨾ Type·allowed tpe ⨾ Types·allowed parents
     ⨾ members·allowed body ⨾ tt
 
 pub TopFnDecl·allowed : Stand TopFnDecl·codec
-unfolding Allowed AllowedAll contentAt rowOf TopFnDecl·tree
+unfolding Stands StandsAll contentAt rowOf TopFnDecl·tree
 TopFnDecl·allowed (TopFn docString attributes visibility fn) =
     refl ⨾ text·allowed docString ⨾ kept·allowed attributes ⨾ kept·allowed visibility ⨾ Fn·allowed fn ⨾ tt
 
 pub Use·allowed : Stand Use·codec
-unfolding Allowed AllowedAll contentAt rowOf Use·tree
+unfolding Stands StandsAll contentAt rowOf Use·tree
 Use·allowed (Use′ visibility path) = refl ⨾ kept·allowed visibility ⨾ Path·allowed path ⨾ tt
 
 mutual
-  unfolding Allowed AllowedAll contentAt rowOf Mod·tree ModDecl·tree ModDecls·trees
+  unfolding Stands StandsAll contentAt rowOf Mod·tree ModDecl·tree ModDecls·trees
 
   pub Mod·allowed : Stand Mod·codec
   Mod·allowed (Mod′ docString attributes name body) = refl ⨾ text·allowed docString ⨾ kept·allowed attributes ⨾ text·allowed name ⨾ ModDecls·allowed body ⨾ tt

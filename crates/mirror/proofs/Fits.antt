@@ -4,40 +4,27 @@ use mathlib.Core.List.{List, [], _∷_}
 use mathlib.Core.Bool.{Bool, true, false, not, _&&_, _||_, cond, false≢true}
 use Prim.Native.Nat.{ℕ}
 use lib.Dec.{eqb, lit≤}
-use borrow.Author.Tests.{eqb-true}
+use borrow.Author.Tests.{eqb-true, not-true}
 use Rattle.wire.specs.Numbers.{Bytes}
 use Rattle.records.specs.Record.{Record, Records, leaf, node, nil, _▸_, isLeaf, text, nth}
 use Rattle.records.specs.Kinds.{Place, kinds, name, seq, option, stands, path, Row, rows, rowIn, rowOf, Content, bytes, these, any, atMostOne, contentAt}
 use Rattle.records.specs.Reading.{isNoName, nameless}
 use Rattle.records.specs.Named.{named, namedAll}
-use Rattle.records.proofs.Fits.{Fits, FitsAll}
+use Rattle.records.proofs.Examples.{due}
+use Rattle.records.proofs.Fits.{Stands, StandsAll, Fits, FitsAll}
 use Rattle.records.proofs.ByRow.{row-content}
 use Rattle.records.proofs.Run.{both}
 
 -- as Fits, but any Text may stand where a name is due
-unfoldable mutual
-  pub Allowed : Record → Place → Type 0
-  Allowed (leaf k b) p = (stands p k ≡ true) × (contentAt p k ≡ bytes)
-  Allowed (node k c) p = (stands p k ≡ true) × AllowedAll c (contentAt p k)
+abbrev pub Allowed : Record → Place → Type 0
+Allowed = Stands (λ p k b. false)
 
-  pub AllowedAll : Records → Content → Type 0
-  AllowedAll nil bytes = ⊥
-  AllowedAll nil (these []) = Unit {0}
-  AllowedAll nil (these (p ∷ ps)) = ⊥
-  AllowedAll nil (any p) = Unit {0}
-  AllowedAll nil (atMostOne p) = Unit {0}
-  AllowedAll (r ▸ c) bytes = ⊥
-  AllowedAll (r ▸ c) (these []) = ⊥
-  AllowedAll (r ▸ c) (these (p ∷ ps)) = Allowed r p × AllowedAll c (these ps)
-  AllowedAll (r ▸ c) (any p) = Allowed r p × AllowedAll c (any p)
-  AllowedAll (r ▸ c) (atMostOne p) = Allowed r p × AllowedAll c (these [])
+abbrev pub AllowedAll : Records → Content → Type 0
+AllowedAll = StandsAll (λ p k b. false)
 
 -- no name is due at a place
 abbrev pub noName : Place → Bool
-noName (kinds from to) = true
-noName name = false
-noName (seq p) = noName p
-noName (option p) = noName p
+noName p = not (due p)
 
 abbrev pub noNames : List Place → Bool
 noNames [] = true
@@ -89,7 +76,7 @@ not-nameless (option p) k b g = refl
 
 -- a Text that is a name fits where one is due
 name-fits : (r : Record) → Allowed r name → isNoName (text r) ≡ false → Fits r name
-unfolding Allowed Fits contentAt
+unfolding Stands contentAt
 name-fits (leaf k b) a n = (a .0, a .1, rw (a .0) n)
 name-fits (node k nil) a n = absurd (a .1)
 name-fits (node k (r ▸ c)) a n = absurd (a .1)
@@ -105,19 +92,15 @@ held-fit : (p : Place) (k : ℕ) (c : Records) → noName p ≡ true → stands 
 unfolding rowOf
 held-fit p k c g s a n plain selected = go (eqb k 0x13) refl n
   where
-    no : (t : Bool) → not t ≡ true → t ≡ false
-    no false u = refl
-    no true u = absurd (false≢true u)
-
     go : (t : Bool) → eqb k 0x13 ≡ t → not (t && isNoName (text (nth 1 c))) ≡ true → FitsAll c (contentAt p k)
     go false e u = plain (contentAt p k) (no-name-in p k g e) a
     go true e u =
         let is : k ≡ 0x13 = eqb-true k 0x13 e in
         let same : contentAt p k ≡ select = ap (contentAt p) is ∙ row-content p 0x13 (lit≤ tt) (rw is at s) in
-        subst (λ (t : Content). FitsAll c t) (sym same) (selected (subst (λ (t : Content). AllowedAll c t) same a) (no _ u))
+        subst (λ (t : Content). FitsAll c t) (sym same) (selected (subst (λ (t : Content). AllowedAll c t) same a) (not-true _ u))
 
 mutual
-  unfolding Allowed AllowedAll Fits FitsAll named namedAll nth
+  unfolding Stands StandsAll named namedAll nth
 
   -- THE LAW: a tree that is allowed at a place and has no nameless path fits there
   pub allowed-fits : (r : Record) (p : Place) → noName p ≡ true → Allowed r p → named r ≡ true → Fits r p

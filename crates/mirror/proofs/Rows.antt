@@ -11,7 +11,7 @@ use Rattle.wire.specs.Numbers.{Bytes}
 use Rattle.records.specs.Record.{Record, Records, leaf, node, nil, _▸_, text, children}
 use Rattle.records.proofs.ByRow.{no-leaf}
 use Rattle.records.specs.Kinds.{Place, kinds, seq, option, name, one, stands, Content, bytes, these, any, atMostOne, rowOf, contentAt}
-use Rattle.records.proofs.Fits.{Fits, FitsAll}
+use Rattle.records.proofs.Fits.{Stands, StandsAll, Fits, FitsAll}
 use Rattle.mirror.specs.Tree.{list, trees}
 use Rattle.mirror.specs.Tree
 use Rattle.mirror.proofs.Decode.{each, Kid, foldAll, kid, first, rest, gather, atMost, own, from, read, absent, seq·of, option·of}
@@ -82,7 +82,7 @@ module _ (L : Layer) where
   allAgain (l ∷ ls) xs = l .again (first (L .other) xs) ▸ allAgain ls (rest xs)
 
   pub row-right : (ls : List (Law L)) (c : Records) → GoodAll c → FitsAll c (these (places ls)) → allAgain ls (each (L .kid) c) ≡ c
-  unfolding FitsAll
+  unfolding StandsAll
   row-right [] nil g f = refl
   row-right [] (r ▸ c) g f = absurd f
   row-right (l ∷ ls) nil g f = absurd f
@@ -111,7 +111,7 @@ module _ (L : Layer) where
 
     pub kinds-right : (from n : ℕ) → 4 ≤ from → Run Case from n → (of : Record → A) → ((k : ℕ) (c : Records) → of (node k c) ≡ at k (each (L .kid) c))
         → (r : Record) → GoodAll (children r) → Fits r (kinds from (from + n)) → tree (of r) ≡ r
-    unfolding Fits
+    unfolding Stands
     kinds-right from n low cases of of-is (leaf k b) g f =
         let h = within from (from + n) k (f .0) in
         absurd (not-bytes (these (rowOf k)) (sym (row-of from (from + n) k (omega arith)) ∙ f .1))
@@ -124,28 +124,28 @@ module _ (L : Layer) where
     module _ (more : A → S → S) (all : S → Records) (all-empty : all empty ≡ nil) (all-more : (x : L .Kid) (s : S) → all (more (of x) s) ≡ l .again x ▸ all s)
       where
         gather-right : (c : Records) → GoodAll c → FitsAll c (any (l .place)) → all (gather empty more of (each (L .kid) c)) ≡ c
-        unfolding FitsAll
+        unfolding StandsAll
         gather-right nil g f = all-empty
         gather-right (r ▸ c) g f =
             all-more (L .kid r) (gather empty more of (each (L .kid) c)) ∙ (λ i. l .right r (g .0) (f .0) i ▸ gather-right c (g .1) (f .1) i)
 
         pub seq-right : (read : Record → S) → ((k : ℕ) (c : Records) → read (node k c) ≡ gather empty more of (each (L .kid) c)) → (r : Record)
             → GoodAll (children r) → Fits r (seq (l .place)) → list (all (read r)) ≡ r
-        unfolding Fits contentAt
+        unfolding Stands contentAt
         seq-right read read-is (leaf k b) g f = absurd (not-bytes (any (l .place)) (f .1))
         seq-right read read-is (node k c) g f = rw (read-is k c) (ap list (gather-right c g (f .1)) ∙ ap (λ (k : ℕ). node k c) (sym (eqb-true k 0x02 (f .0))))
 
     module _ (just : A → S) (tree : S → Record) (tree-empty : tree empty ≡ list nil) (tree-just : (x : L .Kid) → tree (just (of x)) ≡ list (l .again x ▸ nil))
       where
         at-most-right : (c : Records) → GoodAll c → FitsAll c (atMostOne (l .place)) → tree (atMost empty just of (each (L .kid) c)) ≡ list c
-        unfolding FitsAll
+        unfolding StandsAll
         at-most-right nil g f = tree-empty
         at-most-right (r ▸ nil) g f = tree-just (L .kid r) ∙ (λ i. list (l .right r (g .0) (f .0) i ▸ nil))
         at-most-right (r ▸ s ▸ c) g f = absurd (f .1)
 
         pub option-right : (read : Record → S) → ((k : ℕ) (c : Records) → read (node k c) ≡ atMost empty just of (each (L .kid) c)) → (r : Record)
             → GoodAll (children r) → Fits r (option (l .place)) → tree (read r) ≡ r
-        unfolding Fits contentAt
+        unfolding Stands contentAt
         option-right read read-is (leaf k b) g f = absurd (not-bytes (atMostOne (l .place)) (f .1))
         option-right read read-is (node k c) g f = rw (read-is k c) (at-most-right c g (f .1) ∙ ap (λ (k : ℕ). node k c) (sym (eqb-true k 0x02 (f .0))))
 

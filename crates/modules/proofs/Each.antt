@@ -10,7 +10,7 @@ use Rattle.records.specs.Record.{Record, Records, nil, _▸_, encode, encodeAll
 use Rattle.records.specs.Canonical.{Canonical, CanonicalAll}
 use Rattle.records.specs.Record.{deep, deepAll}
 use Rattle.records.specs.Kinds.{kinds, any}
-use Rattle.records.proofs.Fits.{Fits, FitsAll}
+use Rattle.records.proofs.Fits.{StandsAll, Fits, FitsAll}
 use Rattle.records.proofs.Starts.{Starts, AllStart, first-starts, rest-start}
 use Rattle.rast.specs.Path.{Path}
 use Rattle.rast.proofs.Tests.{by-option}
@@ -60,7 +60,7 @@ module _ (op : Shortening) (card root : Bytes) (most n : ℕ) (chain : List ℕ)
     pub all-declared : (c : Records) (from : ℕ) → FitsAll c (any (kinds 0x62 0x6A)) → CanonicalAll c → AllStart card from c → deepAll c ≤ depth → at < from
         → (M : Made) → length (M .held .words) ≡ wide → State from (M .owner) (M .held)
         → Declares op card root most n chain at m S wide c from M (eachMade f (spansOf from c) M)
-    unfolding eachMade spansOf firstIn mapAll encodeAll weighed FitsAll Canonical deep behind
+    unfolding eachMade spansOf firstIn mapAll encodeAll weighed StandsAll Canonical deep behind
     all-declared nil from g h st l b M w s = record {
       full = first-none (M .full);
       bytes = λ z. sym (append-nil (M .bytes));

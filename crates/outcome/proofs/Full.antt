@@ -17,7 +17,7 @@ use Rattle.wire.specs.Numbers.{Bytes, AreBytes}
 use Rattle.records.specs.Record.{Record, Records, leaf, node, nil, _▸_, deep, deepAll, encode, encodeAll, kind, children, nth, field, first, skip, is, tree}
 use Rattle.records.specs.Kinds.{kinds, one, mod′, any, rowOf, contentAt}
 use Rattle.records.specs.Reading.{reading}
-use Rattle.records.proofs.Fits.{Fits, FitsAll}
+use Rattle.records.proofs.Fits.{StandsAll, Fits, FitsAll}
 use Rattle.records.proofs.Run.{_⨾_}
 use Rattle.records.proofs.Leaves.{fits-stands, one-kind}
 use Rattle.records.proofs.ByRow.{by-kinds, by-kind, by-is}
@@ -48,7 +48,7 @@ decl-fits = by-is (λ d. Fits (field 0 d) mod′ × (deep (field 0 d) ≤ deep d
 
 inner-fits : (c : Records) (i : ℕ) → FitsAll c (any (kinds 0x62 0x6A)) → is 0x62 (nth i c) ≡ true
     → Fits (field 0 (nth i c)) mod′ × (deep (field 0 (nth i c)) ≤ deepAll c)
-unfolding FitsAll nth deep
+unfolding StandsAll nth deep
 inner-fits nil i f t = absurd (false≢true t)
 inner-fits (d ▸ c) zero f t = let h = decl-fits d (f .0) t in (h .0, (let l = h .1 in omega arith))
 inner-fits (d ▸ c) (suc i) f t = let h = inner-fits c i (f .1) t in (h .0, (let l = h .1 in omega arith))
@@ -100,7 +100,7 @@ module _ (op : Operation) (most : ℕ) where
 
     body-full : (c : Records) (o : ℕ) → FitsAll c (any (kinds 0x62 0x6A)) → AllStart s o c → firstIn (inDecl n p) c o ≡ some place
         → (i : ℕ) × (is 0x62 (nth i c) ≡ true) × Inner (nth i c)
-    unfolding firstIn FitsAll nth
+    unfolding firstIn StandsAll nth
     body-full nil o f st e = absurd (Option·none-ne-some place e)
     body-full (d ▸ c) o f st e =
         by-option (inDecl n p d o)

@@ -7,7 +7,7 @@ use lib.Dec.{lit≤}
 use borrow.Author.Tests.{eqb-true, eqb-false, le-leb}
 use Rattle.records.specs.Record.{Record, Records, leaf, node, nil, _▸_, _▸▸_, kind, nth, setNth, is, count, first, skip, mapAll, deep, deepAll}
 use Rattle.records.specs.Kinds.{kinds, one, stands, mod′, any, rowOf, contentAt}
-use Rattle.records.proofs.Fits.{Fits, FitsAll}
+use Rattle.records.proofs.Fits.{Stands, StandsAll, Fits, FitsAll}
 use Rattle.records.proofs.Run.{within}
 use Rattle.records.proofs.Leaves.{fits-stands}
 use Rattle.records.proofs.ByRow.{by-kinds}
@@ -54,7 +54,7 @@ ahead-count f c d = rw (count-append c (mapAll f d), count-map f d) (omega arith
 
 -- a record that stands at some kinds stands at others that hold its kind
 pub narrow : (r : Record) (from to from′ to′ : ℕ) → Fits r (kinds from to) → stands (kinds from′ to′) (kind r) ≡ true → Fits r (kinds from′ to′)
-unfolding Fits contentAt
+unfolding Stands contentAt
 narrow (leaf k b) from to from′ to′ f e = (e, f .1, refl)
 narrow (node k c) from to from′ to′ f e = (e, f .1)
 
@@ -99,7 +99,7 @@ module _ (op : Operation) (N : Names op) (C : Chooses op) (alike : Marks op) whe
         (fits-paths d (kinds 0x62 0x6A) f)))
 
     decls-point : (c : Records) → FitsAll c (any (kinds 0x62 0x6A)) → deepAll c ≤ n → Points op M c (mapAll declared c)
-    unfolding FitsAll Points mapAll deep
+    unfolding StandsAll Points mapAll deep
     decls-point nil f le = tt
     decls-point (r ▸ c) f le = (decl-point r (f .0) (omega arith), decls-point c (f .1) (omega arith))
 

@@ -9,7 +9,7 @@ use lib.Dec.{eqb}
 use borrow.Author.Tests.{eqb-true, le-leb}
 use Rattle.records.specs.Record.{Record, Records, leaf, node, nil, _▸_, isLeaf, children, is}
 use Rattle.records.specs.Kinds.{Place, one, kinds, name, seq, option, stands, rowOf, Content, bytes, these, any, atMostOne, contentAt}
-use Rattle.records.proofs.Fits.{Fits, FitsAll}
+use Rattle.records.proofs.Fits.{Stands, StandsAll, Fits, FitsAll}
 use Rattle.records.proofs.Run.{Run, in-run, within}
 use Rattle.records.proofs.Leaves.{NodeAt, node-at, these-no-bytes}
 
@@ -19,7 +19,7 @@ Rowed [] P = P nil
 Rowed (p ∷ ps) P = (r : Record) → Fits r p → Rowed ps (λ c. P (r ▸ c))
 
 pub by-row : (ps : List Place) (P : Records → Type 0) → Rowed ps P → (c : Records) → FitsAll c (these ps) → P c
-unfolding FitsAll
+unfolding StandsAll
 by-row [] P h nil f = h
 by-row [] P h (r ▸ c) f = absurd f
 by-row (p ∷ ps) P h nil f = absurd f
@@ -47,7 +47,7 @@ row-content (option p) k h s = absurd (omega (arith, eqb-true k 0x02 s))
 
 -- a record from kind 4 on that fits a place fits each other where its kind stands
 pub fits-there : (k : ℕ) (c : Records) (p q : Place) → 4 ≤ k → Fits (node k c) p → stands q k ≡ true → Fits (node k c) q
-unfolding Fits
+unfolding Stands
 fits-there k c p q l f s = (s, subst (λ (x : Content). FitsAll c x) (row-content p k l (f .0) ∙ sym (row-content q k l s)) (f .1))
 
 -- at a place for kinds from 4 on
@@ -55,7 +55,7 @@ abbrev pub Kinds : (Record → Type 0) → ℕ → Type 0
 Kinds P k = Rowed (rowOf k) (λ c. P (node k c))
 
 pub by-kinds : (P : Record → Type 0) (from n : ℕ) → 4 ≤ from → Run (Kinds P) from n → (r : Record) → Fits r (kinds from (from + n)) → P r
-unfolding Fits contentAt
+unfolding Stands contentAt
 by-kinds P from n low h (leaf k b) f =
     let l : isLeaf k ≡ false = no-leaf k (let w = within from (from + n) k (f .0) in omega arith) in
     absurd (these-no-bytes (rowOf k) (rw l at (f .1)))
@@ -66,17 +66,17 @@ by-kinds P from n low h (node k c) f =
 -- a List, as a seq and as an Option, if it holds for each record in it
 pub by-seq : (P : Record → Type 0) (Q : Records → Type 0) (p : Place) → ((r : Record) → Fits r p → P r) → Q nil
     → ((r : Record) (c : Records) → P r → Q c → Q (r ▸ c)) → (c : Records) → FitsAll c (any p) → Q c
-unfolding FitsAll
+unfolding StandsAll
 by-seq P Q p each none more nil f = none
 by-seq P Q p each none more (r ▸ c) f = more r c (each r (f .0)) (by-seq P Q p each none more c (f .1))
 
 pub seq-node : (r : Record) (p : Place) → Fits r (seq p) → (c : Records) × (r ≡ node 0x02 c) × FitsAll c (any p)
-unfolding Fits contentAt
+unfolding Stands contentAt
 seq-node (leaf k b) p f = absurd (let z : _≡_ {A = ℕ} 0 1 = (let e : any p ≡ bytes = f .1 in cc) in omega arith)
 seq-node (node k c) p f = (c, ap (λ (j : ℕ). node j c) (eqb-true k 0x02 (f .0)), f .1)
 
 pub option-node : (r : Record) (p : Place) → Fits r (option p) → (c : Records) × (r ≡ node 0x02 c) × FitsAll c (any p)
-unfolding Fits FitsAll contentAt
+unfolding Stands StandsAll contentAt
 option-node (leaf k b) p f = absurd (let z : _≡_ {A = ℕ} 0 1 = (let e : atMostOne p ≡ bytes = f .1 in cc) in omega arith)
 option-node (node k nil) p f = (nil, ap (λ (j : ℕ). node j nil) (eqb-true k 0x02 (f .0)), tt)
 option-node (node k (r ▸ nil)) p f = (r ▸ nil, ap (λ (j : ℕ). node j (r ▸ nil)) (eqb-true k 0x02 (f .0)), (f .1 .0, tt))
@@ -84,7 +84,7 @@ option-node (node k (r ▸ s ▸ c)) p f = absurd (f .1 .1)
 
 -- what follows from a record at each of several kinds follows from it at a place for all of them
 pub by-kind : {X : Type 0} (from n : ℕ) (r : Record) → Run (λ k. Fits r (one k) → X) from n → Fits r (kinds from (from + n)) → X
-unfolding Fits contentAt
+unfolding Stands contentAt
 by-kind {X} from n (leaf k b) h f = in-run (λ j. Fits (leaf k b) (one j) → X) from n h k (f .0) (rw (le-leb k k (le-refl k)), f .1, refl)
 by-kind {X} from n (node k c) h f = in-run (λ j. Fits (node k c) (one j) → X) from n h k (f .0) (rw (le-leb k k (le-refl k)), f .1)
 

@@ -10,7 +10,7 @@ use lib.Dec.{eqb}
 use borrow.Author.Tests.{eqb-true}
 use Rattle.records.specs.Record.{Record, Records, leaf, node, nil, _▸_, isLeaf}
 use Rattle.records.specs.Kinds.{Place, kinds, name, seq, option, stands, Row, rows, rowIn, rowOf, Content, bytes, these, any, atMostOne, contentAt}
-use Rattle.records.proofs.Fits.{Fits, FitsAll}
+use Rattle.records.proofs.Fits.{Stands, StandsAll, Fits, FitsAll}
 use Rattle.records.proofs.Run.{both, within}
 
 module _ (q : ℕ → Bool) where
@@ -101,7 +101,7 @@ module _ (q : ℕ → Bool) where
     content-in (option p) k g e = both (q 0x02) (holdsAt p) g .1
 
     mutual
-      unfolding Fits FitsAll Of
+      unfolding Stands StandsAll Of
 
       pub fits-of : (r : Record) (p : Place) → holdsAt p ≡ true → Fits r p → Of r
       fits-of (leaf k b) p g f = stands-in p k g (f .0)

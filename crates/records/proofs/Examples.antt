@@ -121,7 +121,7 @@ unfolding le num encode rowOf contentAt read reading
 no-name-last = refl
 
 -- 02, request 4: a name is due at field 1 of PMemberSelect, and at no other field
-abbrev due : Place → Bool
+abbrev pub due : Place → Bool
 due (kinds from to) = false
 due name = true
 due (seq p) = due p

@@ -10,7 +10,7 @@ use Rattle.wire.specs.Numbers.{Bytes}
 use Rattle.records.specs.Record.{Record, Records, leaf, node, nil, _▸_, recordBytes, encode, encodeAll, lengthOf, tree, deep, deepAll}
 use Rattle.records.specs.Kinds.{Place, stands, Content, bytes, these, any, atMostOne, contentAt}
 use Rattle.records.specs.Reading.{done, record-at, next, nameless, read, reading}
-use Rattle.records.proofs.Fits.{Fits, FitsAll}
+use Rattle.records.proofs.Fits.{Stands, StandsAll, Fits, FitsAll}
 use Rattle.records.specs.Canonical.{Canonical, CanonicalAll}
 use Rattle.records.proofs.Tree.{record-length, front-kind, front-content, front-rest, front-short, tree-encode}
 use Rattle.records.proofs.Step.{read-bytes, read-done, Next-sound, stepped-read}
@@ -19,7 +19,7 @@ use Rattle.records.proofs.Leaves.{node-named}
 
 -- where no records fit, nothing comes next in no bytes
 pub fits-done : (c : Content) → FitsAll nil c → next c [] ≡ done
-unfolding FitsAll
+unfolding StandsAll
 fits-done bytes f = absurd f
 fits-done (these []) f = refl
 fits-done (these (p ∷ ps)) f = absurd f
@@ -36,7 +36,7 @@ pub record Comes (c : Content) (s : Bytes) (r : Record) (d : Records) : Type 0 w
 
 -- where records fit, the first comes next and the others follow it
 pub fits-next : (c : Content) (s : Bytes) (r : Record) (d : Records) → 0 < length s → FitsAll (r ▸ d) c → Comes c s r d
-unfolding FitsAll
+unfolding StandsAll
 fits-next bytes s r d l f = absurd f
 fits-next (these []) s r d l f = absurd f
 fits-next (these (p ∷ ps)) s r d l f = record { place = p; more = these ps; is = refl; fits = f .0; others = f .1 }
@@ -70,7 +70,7 @@ some-bytes k content rest = let a = length-append (recordBytes k content) rest i
 -- records that fit a content, are canonical and at most limit deep read sound
 pub fits-read : (limit n : ℕ) (c : Content) (depth at : ℕ) (d : Records) → FitsAll d c → CanonicalAll d → depth + deepAll d ≤ limit + 1
     → read limit n c depth at (encodeAll d) ≡ Sound
-unfolding encode Fits Canonical deep
+unfolding encode Stands Canonical deep
 fits-read limit zero c depth at d f g h = read-zero limit c depth at (encodeAll d)
 fits-read limit (suc n) c depth at nil f g h = read-done limit (suc n) c depth at [] (fits-done c f)
 fits-read limit (suc n) c depth at (leaf k b ▸ d) f g h =
@@ -91,7 +91,7 @@ fits-read limit (suc n) c depth at (node k e ▸ d) f g h =
 
 -- a record that fits a place, is canonical and at most limit deep reads sound there
 pub fits-sound : (limit : ℕ) (p : Place) (r : Record) → Fits r p → Canonical r → deep r ≤ limit → reading limit p (encode r) ≡ Sound
-unfolding reading encode FitsAll Canonical deep
+unfolding reading encode StandsAll Canonical deep
 fits-sound limit p r f g h =
     subst (λ (s : Bytes). read limit (suc (length (encode r))) (these (p ∷ [])) 1 0 s ≡ Sound) (append-nil (encode r))
     (fits-read limit (suc (length (encode r))) (these (p ∷ [])) 1 0 (r ▸ nil) (f, tt) (g, tt) (omega arith))

@@ -9,18 +9,18 @@ use Rattle.wire.specs.Numbers.{Bytes}
 use Rattle.records.specs.Record.{Record, Records, leaf, node, nil, _▸_, kind, text, children, is}
 use Rattle.records.specs.Kinds.{Place, kinds, one, name, seq, option, stands, Content, bytes, these, contentAt}
 use Rattle.records.specs.Reading.{nameless}
-use Rattle.records.proofs.Fits.{Fits, FitsAll}
+use Rattle.records.proofs.Fits.{Stands, StandsAll, Fits, FitsAll}
 use Rattle.records.proofs.Run.{within}
 
 -- the kind of a record that fits a place stands there
 pub fits-stands : (r : Record) (p : Place) → Fits r p → stands p (kind r) ≡ true
-unfolding Fits
+unfolding Stands
 fits-stands (leaf k b) p f = f .0
 fits-stands (node k c) p f = f .0
 
 -- no records fit where bytes are held
 pub no-records : (c : Records) → FitsAll c bytes → ⊥
-unfolding FitsAll
+unfolding StandsAll
 no-records nil f = f
 no-records (r ▸ c) f = f
 
@@ -34,7 +34,7 @@ node-named (option p) k c s f = refl
 
 -- a record of bytes
 pub leaf-right : (p : Place) (k₀ : ℕ) → ((k : ℕ) → stands p k ≡ true → k ≡ k₀) → contentAt p k₀ ≡ bytes → (r : Record) → Fits r p → leaf k₀ (text r) ≡ r
-unfolding Fits
+unfolding Stands
 leaf-right p k₀ same holds (leaf k b) f = ap (λ (k : ℕ). leaf k b) (sym (same k (f .0)))
 leaf-right p k₀ same holds (node k c) f = absurd (no-records c (subst (λ (x : Content). FitsAll c x) (ap (contentAt p) (same k (f .0)) ∙ holds) (f .1)))
 
@@ -54,7 +54,7 @@ pub record NodeAt (r : Record) (k : ℕ) (t : Content) : Type 0 where
   pub fits : FitsAll (children r) t
 
 pub node-at : (r : Record) (p : Place) (k : ℕ) (t : Content) → is k r ≡ true → contentAt p k ≡ t → (t ≡ bytes → ⊥) → Fits r p → NodeAt r k t
-unfolding Fits
+unfolding Stands
 node-at (leaf j b) p k t e same never f = absurd (never (sym same ∙ ap (contentAt p) (sym (eqb-true j k e)) ∙ f .1))
 node-at (node j c) p k t e same never f =
     record {

@@ -11,26 +11,26 @@ use Rattle.records.specs.Record.{Record, Records, leaf, node, nil, _▸_
 use Rattle.records.specs.Kinds.{Place, name, stands, path, Content, bytes, these, any, atMostOne, rowOf, contentAt}
 use Rattle.records.specs.Reading.{isNoName, reading}
 use Rattle.records.specs.Named.{named, namedAll}
-use Rattle.records.proofs.Fits.{Fits, FitsAll}
+use Rattle.records.proofs.Fits.{Stands, StandsAll, Fits, FitsAll}
 use Rattle.records.proofs.Sound.{sound-reads}
 use Rattle.records.proofs.Leaves.{no-records}
 use Rattle.records.proofs.ByRow.{row-content}
 
 -- a Text where a name is due is one
 pub fits-name : (r : Record) → Fits r name → isNoName (text r) ≡ false
-unfolding Fits contentAt
+unfolding Stands contentAt
 fits-name (leaf k b) f = rw (eqb-true k 0x01 (f .0)) at (f .2)
 fits-name (node k c) f = absurd (no-records c (f .1))
 
 -- what a PMemberSelect holds ends in a name
 pub select-named : (c : Records) → FitsAll c (these (path ∷ name ∷ [])) → isNoName (text (nth 1 c)) ≡ false
-unfolding FitsAll nth
+unfolding StandsAll nth
 select-named nil f = absurd f
 select-named (r ▸ nil) f = absurd (f .1)
 select-named (r ▸ s ▸ c) f = fits-name s (f .1 .0)
 
 mutual
-  unfolding rowOf Fits FitsAll named
+  unfolding rowOf Stands StandsAll named
 
   pub fits-named : (r : Record) (p : Place) → Fits r p → named r ≡ true
   fits-named (leaf k b) p f = refl

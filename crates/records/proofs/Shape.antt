@@ -10,7 +10,7 @@ use borrow.Author.Tests.{ltb-true}
 use Rattle.wire.specs.Numbers.{Bytes}
 use Rattle.records.specs.Record.{Record, Records, leaf, node, nil, _▸_, _▸▸_, mapAll, isLeaf, encode, encodeAll}
 use Rattle.records.specs.Kinds.{Place, Content, bytes, these, any, atMostOne, contentAt}
-use Rattle.records.proofs.Fits.{Fits, FitsAll}
+use Rattle.records.proofs.Fits.{Stands, Fits, FitsAll}
 use Rattle.records.specs.Canonical.{Canonical, CanonicalAll}
 use Rattle.records.proofs.Tree.{record-length}
 use Rattle.records.proofs.Step.{content-leaf}
@@ -65,7 +65,7 @@ node-kind c (any p) f = refl
 node-kind c (atMostOne p) f = refl
 
 mutual
-  unfolding Fits Of Shaped
+  unfolding Stands Of Shaped
 
   of-shaped : (r : Record) (p : Place) → Fits r p → Of small r → Shaped r
   of-shaped (leaf k b) p f o = (sym (content-leaf p k (f .0)) ∙ ap ofBytes (f .1), ltb-true k 65536 o)

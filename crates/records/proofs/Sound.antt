@@ -11,7 +11,7 @@ use Rattle.records.specs.Record.{Record, Records, leaf, node, nil, _▸_
 use Rattle.records.specs.Record.{restOf, parse, nth, tree, deep, deepAll}
 use Rattle.records.specs.Kinds.{Place, stands, Content, bytes, these, any, atMostOne, contentAt}
 use Rattle.records.specs.Reading.{Next, done, leftOver, record-at, next, short, nameless, read, reading}
-use Rattle.records.proofs.Fits.{Fits, FitsAll}
+use Rattle.records.proofs.Fits.{Stands, StandsAll, Fits, FitsAll}
 use Rattle.records.specs.Canonical.{Canonical, CanonicalAll}
 use Rattle.records.proofs.Tree.{long-enough, content-length, rest-length, content-bytes, rest-bytes, kind-small, length-small}
 use Rattle.records.proofs.Tree.{record-split, parse-step, parse-nil}
@@ -20,7 +20,7 @@ use Rattle.records.specs.Kinds.{ofBytes}
 
 -- no records fit where nothing comes next
 pub done-fits : (c : Content) (s : Bytes) → ofBytes c ≡ false → next c s ≡ done → FitsAll nil c
-unfolding FitsAll
+unfolding StandsAll
 done-fits bytes s r h = absurd (let z : _≡_ {A = ℕ} 0 1 = cc in omega arith)
 done-fits (these []) s r h = tt
 done-fits (these (p ∷ ps)) s r h = absurd (let z : _≡_ {A = ℕ} 0 1 = cc in omega arith)
@@ -30,7 +30,7 @@ done-fits (atMostOne p) s r h = tt
 -- the record that comes next and those that follow it fit
 pub next-fits : (c : Content) (s : Bytes) (p : Place) (more : Content) (r : Record) (d : Records) → next c s ≡ record-at p more → Fits r p
     → FitsAll d more → FitsAll (r ▸ d) c
-unfolding FitsAll
+unfolding StandsAll
 next-fits bytes s p more r d e f g = absurd (let z : _≡_ {A = ℕ} 0 1 = cc in omega arith)
 next-fits (these []) [] p more r d e f g = absurd (let z : _≡_ {A = ℕ} 0 1 = cc in omega arith)
 next-fits (these []) (b ∷ s) p more r d e f g = absurd (let z : _≡_ {A = ℕ} 0 1 = cc in omega arith)
@@ -59,7 +59,7 @@ is-first : (limit depth m : ℕ) (p : Place) (s : Bytes) → AreBytes s → shor
     → nameless p (kindOf s) (contentOf s) ≡ false
     → (ofBytes (contentAt p (kindOf s)) ≡ false → Are limit (depth + 1) (contentAt p (kindOf s)) (contentOf s) (parse m (contentOf s)))
     → Is limit depth p s (cond (isLeaf (kindOf s)) (leaf (kindOf s) (contentOf s)) (node (kindOf s) (parse m (contentOf s))))
-unfolding encode Fits Canonical deep
+unfolding encode Stands Canonical deep
 is-first limit depth m p s h l st sh nm inner = go (isLeaf (kindOf s)) refl
   where
     bounded : 2 + length (contentOf s) < 2 ^ 32
@@ -138,7 +138,7 @@ pub record ReadsAs (limit : ℕ) (p : Place) (s : Bytes) (r : Record) : Type 0 w
   pub shallow : deep r ≤ limit
 
 are-one : (limit : ℕ) (p : Place) (s : Bytes) (d : Records) → Are limit 1 (these (p ∷ [])) s d → ReadsAs limit p s (nth 0 d)
-unfolding FitsAll nth encode Canonical deep
+unfolding StandsAll nth encode Canonical deep
 are-one limit p s nil a = absurd (a .fits)
 are-one limit p s (r ▸ nil) a =
     record {

@@ -8,7 +8,7 @@ use lib.Dec.{eqb}
 use borrow.Author.Tests.{eqb-true, eq-eqb}
 use Rattle.records.specs.Record.{Record, Records, leaf, node, nil, _▸_, kind, isLeaf, deep, deepAll}
 use Rattle.records.specs.Kinds.{Place, kinds, stands, path, type, expr, Content, bytes, these, any, atMostOne, rowOf, contentAt}
-use Rattle.records.proofs.Fits.{Fits, FitsAll}
+use Rattle.records.proofs.Fits.{Stands, StandsAll, Fits, FitsAll}
 use Rattle.records.proofs.Run.{_⨾_}
 use Rattle.records.proofs.ByRow.{by-row, by-kinds, row-content}
 use Rattle.records.proofs.Leaves.{fits-stands, one-kind}
@@ -58,7 +58,7 @@ module _ (op : Operation) where
 
   -- in a record that is at most 44 deep every Fn has room
   mutual
-    unfolding Fits FitsAll Fns deep
+    unfolding Stands StandsAll Fns deep
 
     fits-fns : (r : Record) (p : Place) → Fits r p → deep r ≤ 44 → Fns op r
     fits-fns (leaf k b) p f h = tt
@@ -79,7 +79,7 @@ module _ (op : Operation) where
   -- a Fn lies two deeper than a declaration, or deeper
   declared-fns : (k : ℕ) (p : Place) → eqb k 0x7D ≡ false → stands p 0x7D ≡ false → (r : Record) → Fits r p → deep (node k (r ▸ nil)) ≤ 46
       → Fns op (node k (r ▸ nil))
-  unfolding Fits Fns deep
+  unfolding Stands Fns deep
   declared-fns k p n s r f h = ((λ e. absurd (false≢true (sym n ∙ eq-eqb k 0x7D (fn-kind k e)))), held r f (omega arith) ⨾ tt)
     where
       held : (r : Record) → Fits r p → deep r ≤ 45 → Fns op r

@@ -11,7 +11,7 @@ use Rattle.wire.specs.Numbers.{sameBytes}
 use Rattle.records.specs.Record.{Record, Records, leaf, node, nil, _▸_, _▸▸_, deep, nth, setNth, FoldLeft, mapAll}
 use Rattle.records.specs.Kinds.{type, expr, mod′, any, rowOf, contentAt}
 use Rattle.records.specs.Reading.{isNoName}
-use Rattle.records.proofs.Fits.{Fits, FitsAll}
+use Rattle.records.proofs.Fits.{Stands, Fits, FitsAll}
 use Rattle.rast.specs.Path.{Name, Path, Global, MSel, samePath}
 use Rattle.rast.specs.Operation.{Operation, upstream, straight}
 use Rattle.rast.specs.Mod.{Mod·Fold}
@@ -63,29 +63,29 @@ abbrev widest : Record
 widest = typed (node 0x33 (node 0x02 (several 33) ▸ nil))
 
 named-fits : (n : Name) → isNoName n ≡ false → Fits (named n) type
-unfolding Fits rowOf contentAt
+unfolding Stands rowOf contentAt
 named-fits n h = (refl, ((refl, ((refl, tt), ((refl, refl, h), tt))), tt))
 
 several-fit : (n : ℕ) → n ≤ 33 → FitsAll (several n) (any type)
-unfolding Fits
+unfolding Stands
 several-fit zero l = tt
 several-fit (suc n) l = (named-fits (n ∷ []) (ne-eqb n 33 (λ e. omega arith)), several-fit n (omega arith))
 
 typed-fits : (t : Record) → Fits t type → Fits (typed t) expr
-unfolding Fits rowOf contentAt
+unfolding Stands rowOf contentAt
 typed-fits t f = (refl, (f, tt))
 
 widest-fits : Fits widest expr
-unfolding Fits rowOf contentAt
+unfolding Stands rowOf contentAt
 widest-fits = typed-fits (node 0x33 (node 0x02 (several 33) ▸ nil)) (refl, ((refl, several-fit 33 (lit≤ tt)), tt))
 
 blocks-fit : (n : ℕ) (e : Record) → Fits e expr → Fits (blocks n e) expr
-unfolding Fits rowOf contentAt
+unfolding Stands rowOf contentAt
 blocks-fit zero e f = f
 blocks-fit (suc n) e f = (refl, (blocks-fit n e f, tt))
 
 around-fits : (e : Record) → Fits e expr → Fits (around e) mod′
-unfolding Fits rowOf contentAt
+unfolding Stands rowOf contentAt
 around-fits e f = (
   refl,
   (

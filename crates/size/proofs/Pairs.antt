@@ -9,7 +9,7 @@ use lib.Dec.{eqb, lit≤}
 use borrow.Author.Tests.{eqb-true}
 use Rattle.records.specs.Record.{Record, Records, leaf, node, nil, _▸_, children, nth, encode}
 use Rattle.records.specs.Kinds.{Place, kinds, one, seq, stands, mod′, type, expr, Content, bytes, these, any, atMostOne, rowOf, contentAt}
-use Rattle.records.proofs.Fits.{Fits, FitsAll}
+use Rattle.records.proofs.Fits.{Stands, StandsAll, Fits, FitsAll}
 use Rattle.records.proofs.Run.{_⨾_, within}
 use Rattle.records.proofs.Leaves.{one-kind}
 use Rattle.records.proofs.ByRow.{by-kinds, fits-there}
@@ -56,7 +56,7 @@ mutual
 
 -- a record at a place for one kind
 spare-six : (p : Place) (j : ℕ) → ((k : ℕ) → stands p k ≡ true → k ≡ j) → charged j ≡ false → (r : Record) → Fits r p → 6 ≤ spare r
-unfolding Fits spare
+unfolding Stands spare
 spare-six p j only free (leaf k b) f = omega arith
 spare-six p j only free (node k c) f = rw (only k (f .0), free) (omega arith)
 
@@ -194,7 +194,7 @@ module _ (op : Operation) where
         omega arith
 
     mutual
-      unfolding Fits FitsAll Paths collects spare size
+      unfolding Stands StandsAll Paths collects spare size
 
       -- every record that fits a place
       few : (r : Record) (p : Place) → Fits r p → Few r

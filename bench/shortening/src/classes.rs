@@ -1,5 +1,5 @@
 //! Cards for measuring, made: by the number of pairs, one name under many bases, many nested modules, deep
-//! types, and typical ones by size.
+//! types, typical ones by size, and ones with so many pairs that more words are lent for them.
 use crate::cards::*;
 use std::collections::HashSet;
 
@@ -46,6 +46,25 @@ pub fn pairs(count: usize) -> Vec<u8> {
         constant(&own[0], ty(&format!("::{crate_name}::{}::{}", modules[i], own[1])), empty_raw())
     };
     module("m", &names.chunks(2).enumerate().map(constant).collect::<Vec<_>>())
+}
+
+/// A module with so many pairs, an even number, in fewer bytes: nested ExternMods, and as many path types.
+pub fn close_pairs(count: usize) -> Vec<u8> {
+    let names = Draws(9).names(count, 6);
+    let (own, others) = names.split_at(count / 2);
+    let mut body: Vec<Bytes> = own.iter().map(|name| nested(extern_module(name))).collect();
+    body.push(global_types(others));
+    module("m", &body)
+}
+
+/// A module with so many pairs, each that of one path type.
+pub fn paths(count: usize) -> Vec<u8> {
+    module("m", &[global_types(&Draws(8).names(count, 6))])
+}
+
+/// Path types of these names under Global.
+fn global_types(names: &[String]) -> Bytes {
+    only_types(&names.iter().map(|name| ty(&format!("::{name}"))).collect::<Vec<_>>())
 }
 
 /// One name under so many different bases, equally long.

@@ -3,52 +3,59 @@ use std::borrow::Borrow;
 use std::collections::BTreeMap;
 use yardstick::random::Draws;
 use yardstick::text::{question, Vector};
-use yardstick::{tree, walk, Answer, Listed, Operation, MOST_CARD, MOST_ENTRIES, MOST_TIMES, WORDS};
+use yardstick::{most_pairs, random, tree, walk};
+use yardstick::{Answer, Listed, Operation, MOST_CARD, MOST_ENTRIES, MOST_TIMES, WORDS};
 
 /// Words of a list that is long enough for every output.
 pub const LONG: usize = 2 * MOST_ENTRIES;
 
-/// Operation, card, root, out buffer, and how many work words.
-type Call = fn(Operation, &[u8], &[u8], &mut [u8], usize) -> Answer;
+/// Work words, none where a call brings its own.
+type Words<'w> = Option<&'w mut [u32]>;
+
+/// Operation, card, root, out buffer and work words.
+type Call = fn(Operation, &[u8], &[u8], &mut [u8], Words) -> Answer;
 
 /// The same with a list, and where the number of its entries goes.
-type ListCall = fn(Operation, &[u8], &[u8], &mut [u8], usize, &mut [u32], &mut u32) -> Answer;
+type ListCall = fn(Operation, &[u8], &[u8], &mut [u8], Words, &mut [u32], &mut u32) -> Answer;
 
 pub struct Way {
     pub what: &'static str,
     call: Call,
     list_call: ListCall,
-    /// Whether it brings its own work words, and so can't be given fewer.
-    own_words: bool,
+    /// Whether it works in words, those lent or its own. Others only look how many there are.
+    works: bool,
 }
 
 pub const WAYS: &[Way] = &[
     #[cfg(feature = "console")]
     Way {
         what: "console",
-        call: |operation, card, root, out, _| yardstick::console::shorten(operation, card, root, out),
-        list_call: |operation, card, root, out, _, list, entries| {
-            yardstick::console::shorten_places(operation, card, root, out, list, entries)
-        },
-        own_words: true,
+        call: yardstick::console::shorten,
+        list_call: yardstick::console::shorten_places,
+        works: true,
     },
     Way {
         what: "tree",
-        call: tree::shorten,
+        call: |operation, card, root, out, words| tree::shorten(operation, card, root, out, number(words)),
         list_call: |operation, card, root, out, words, list, entries| {
-            counted(tree::shorten_places(operation, card, root, out, words, list), entries)
+            counted(tree::shorten_places(operation, card, root, out, number(words), list), entries)
         },
-        own_words: false,
+        works: false,
     },
     Way {
         what: "walk",
-        call: walk::shorten,
+        call: |operation, card, root, out, words| walk::shorten(operation, card, root, out, number(words)),
         list_call: |operation, card, root, out, words, list, entries| {
-            counted(walk::shorten_places(operation, card, root, out, words, list), entries)
+            counted(walk::shorten_places(operation, card, root, out, number(words), list), entries)
         },
-        own_words: false,
+        works: false,
     },
 ];
+
+/// How many there are, a call's own counted.
+fn number(words: Words) -> usize {
+    words.map_or(WORDS, |words| words.len())
+}
 
 fn counted(listed: Listed, entries: &mut u32) -> Answer {
     let (length, count) = listed?;
@@ -115,8 +122,10 @@ impl Case {
         Operation::BOTH.into_iter().filter(move |&each| named.is_none_or(|named| named == each))
     }
 
-    pub fn call(&self, way: &Way, operation: Operation, out: &mut [u8]) -> Answer {
-        (way.call)(operation, &self.card, &self.root, &mut out[..self.out], self.words)
+    /// With its number of these words, or with none of them.
+    pub fn call(&self, way: &Way, operation: Operation, out: &mut [u8], words: Words) -> Answer {
+        let words = words.map(|words| &mut words[..self.words]);
+        (way.call)(operation, &self.card, &self.root, &mut out[..self.out], words)
     }
 
     pub fn list_call(
@@ -124,10 +133,17 @@ impl Case {
         way: &Way,
         operation: Operation,
         out: &mut [u8],
+        words: Words,
         list: &mut [u32],
         entries: &mut u32,
     ) -> Answer {
-        (way.list_call)(operation, &self.card, &self.root, &mut out[..self.out], self.words, list, entries)
+        let words = words.map(|words| &mut words[..self.words]);
+        (way.list_call)(operation, &self.card, &self.root, &mut out[..self.out], words, list, entries)
+    }
+
+    /// Whether a call that brings its own words is due the same as one with those that are lent.
+    fn as_with_own(&self) -> bool {
+        self.words >= WORDS && most_pairs(self.words) == most_pairs(WORDS)
     }
 
     /// How many words of a list are lent beforehand.
@@ -142,20 +158,30 @@ impl Case {
     }
 
     /// As a line of the vectors, without its answer.
-    fn line(&self, operation: Operation, lent: Option<usize>) -> String {
+    fn line(&self, operation: Operation, lent: Lent) -> String {
         // Without a list the line of the old operation doesn't name it.
-        let named = Some(operation).filter(|_| (operation, lent) != (Operation::Upstream, None));
-        question(named, &self.root, &self.card, self.out, self.words, lent)
+        let named = Some(operation).filter(|_| (operation, lent.list) != (Operation::Upstream, None));
+        question(named, &self.root, &self.card, self.out, lent.words.unwrap_or(WORDS), lent.list)
     }
+}
+
+/// How many work words are lent, none where a call brings its own, and how many words of a list, none where no
+/// list is.
+#[derive(Clone, Copy)]
+struct Lent {
+    words: Option<usize>,
+    list: Option<usize>,
 }
 
 /// The number of entries before a call, far more than any output has.
 const NO_ENTRIES: u32 = 0xA5A5_A5A5;
 
-/// What out buffer and list hold before a call, and the two.
+/// What out buffer, work words and list hold before a call, and the three.
 pub struct Buffers {
     before: Vec<u8>,
     pub out: Vec<u8>,
+    words_before: Vec<u32>,
+    pub words: Vec<u32>,
     list_before: Vec<u32>,
     pub list: Vec<u32>,
     /// For the lengths of lists.
@@ -171,41 +197,63 @@ fn front<'b, T: PartialEq>(now: &'b [T], before: &[T], count: usize) -> Option<&
     (rest == &before[count..]).then_some(front)
 }
 
+/// Whether work words are as they are due after an answer: as they were after what is refused before anything is
+/// collected, else all zero.
+fn are_left(words: &[u32], before: &[u32], answer: Answer) -> bool {
+    match answer {
+        Err((1..=7 | 11, _)) => words == before,
+        _ => words.iter().all(|&word| word == 0),
+    }
+}
+
 impl Buffers {
     /// Room for the longest output and list, and for what the cases lend of which it is known beforehand.
     pub fn new<'c>(cases: impl IntoIterator<Item = &'c Case>) -> Self {
-        let (mut bytes, mut words) = (MOST_CARD * MOST_TIMES + 100, LONG + 100);
+        let (mut bytes, mut words, mut list) = (MOST_CARD * MOST_TIMES + 100, random::MOST_WORDS, LONG + 100);
         for case in cases {
             bytes = bytes.max(case.out);
-            words = words.max(case.lent().unwrap_or(0));
+            words = words.max(case.words);
+            list = list.max(case.lent().unwrap_or(0));
         }
         let before: Vec<u8> = (0..bytes).map(|i| (i * 31 + i / 256 + 7) as u8).collect();
-        let list_before: Vec<u32> = (0..words as u32).map(|i| i.wrapping_mul(0x9E37_79B1) ^ 0xA5).collect();
-        Buffers { out: before.clone(), before, list: list_before.clone(), list_before, draws: Draws(1) }
+        let mixed = |i: u32| i.wrapping_mul(0x9E37_79B1) ^ 0xA5;
+        // None of these is zero.
+        let words_before: Vec<u32> = (0..words as u32).map(|i| mixed(i) | 1).collect();
+        let list_before: Vec<u32> = (0..list as u32).map(mixed).collect();
+        Buffers {
+            out: before.clone(),
+            before,
+            words: words_before.clone(),
+            words_before,
+            list: list_before.clone(),
+            list_before,
+            draws: Draws(1),
+        }
     }
 
-    fn call(
-        &mut self,
-        case: &Case,
-        way: &Way,
-        operation: Operation,
-        lent: Option<usize>,
-    ) -> (Answer, Seen<'_>) {
+    fn call(&mut self, case: &Case, way: &Way, operation: Operation, lent: Lent) -> (Answer, Seen<'_>) {
         let (before, out) = (&self.before[..case.out], &mut self.out[..case.out]);
-        let words = lent.unwrap_or(0);
-        let (list_before, list) = (&self.list_before[..words], &mut self.list[..words]);
+        let count = lent.words.unwrap_or(0);
+        let (words_before, words) = (&self.words_before[..count], &mut self.words[..count]);
+        let count = lent.list.unwrap_or(0);
+        let (list_before, list) = (&self.list_before[..count], &mut self.list[..count]);
         out.copy_from_slice(before);
+        words.copy_from_slice(words_before);
         list.copy_from_slice(list_before);
+        let lent_words = lent.words.map(|_| &mut *words);
         let mut entries = NO_ENTRIES;
-        let answer = match lent {
-            None => case.call(way, operation, out),
-            Some(_) => case.list_call(way, operation, out, list, &mut entries),
+        let answer = match lent.list {
+            None => case.call(way, operation, out, lent_words),
+            Some(_) => case.list_call(way, operation, out, lent_words, list, &mut entries),
         };
-        let entries = match (answer, lent) {
+        let entries = match (answer, lent.list) {
             (Ok(_), Some(_)) => entries as usize,
             _ if entries == NO_ENTRIES => 0,
             _ => return (answer, Err(" and a number of entries")),
         };
+        if way.works && !are_left(words, words_before, answer) {
+            return (answer, Err(" and other work words"));
+        }
         let output = front(out, before, answer.unwrap_or(0)).ok_or(" and other bytes behind");
         let list = front(list, list_before, entries * 2).ok_or(" and other words behind");
         (answer, output.and_then(|output| Ok((output, list?))))
@@ -217,9 +265,10 @@ impl Buffers {
         ways: impl IntoIterator<Item = &'w Way>,
         case: &Case,
         operation: Operation,
-        lent: Option<usize>,
+        lent: Lent,
         mut due: Option<Given>,
     ) -> Result<Given, String> {
+        let with = if lent.words.is_some() { "" } else { " with its own words" };
         let mut faults = Vec::new();
         for way in ways {
             let (answer, seen) = self.call(case, way, operation, lent);
@@ -234,12 +283,33 @@ impl Buffers {
                 Ok((_, list)) if list != due.list => " with another list",
                 Ok(_) => continue,
             };
-            faults.push(format!("{} answers {answer:?}{fault}, not {:?}", way.what, due.answer));
+            faults.push(format!("{}{with} answers {answer:?}{fault}, not {:?}", way.what, due.answer));
         }
         match (due, &faults[..]) {
             (Some(given), []) => Ok(given),
             _ => Err(format!("{}\n    {}", faults.join("; "), case.line(operation, lent))),
         }
+    }
+
+    /// What is given to a case with the words that it lends; or what is wrong with it, or with what those give that
+    /// bring their own words.
+    fn compare_all(
+        &mut self,
+        ways: &[Way],
+        case: &Case,
+        operation: Operation,
+        list: Option<usize>,
+        due: Option<Given>,
+    ) -> Result<Given, String> {
+        // The console's call last, so that the others say what is due.
+        let lent = Lent { words: Some(case.words), list };
+        let given = self.compare(ways.iter().rev(), case, operation, lent, due)?;
+        if ways.iter().any(|way| way.works) {
+            let (lent, same) = (Lent { words: None, list }, case.as_with_own());
+            let ways = ways.iter().rev().filter(|way| way.works || !same);
+            self.compare(ways, case, operation, lent, same.then(|| given.clone()))?;
+        }
+        Ok(given)
     }
 
     /// A length for a list of so many words: none, too short by one or two, just enough, or more.
@@ -261,18 +331,16 @@ impl Buffers {
         case: &Case,
         operation: Operation,
     ) -> Result<(Answer, Answer), String> {
-        // The console's call last, so that the others say what is due.
-        let ways = || ways.iter().rev().filter(|way| case.words >= WORDS || !way.own_words);
-        let without = self.compare(ways(), case, operation, None, case.due(operation, None))?;
-        let long = self.compare(ways(), case, operation, Some(LONG), None)?;
+        let without = self.compare_all(ways, case, operation, None, case.due(operation, None))?;
+        let long = self.compare_all(ways, case, operation, Some(LONG), None)?;
         if (long.answer, &long.output) != (without.answer, &without.output) {
             let (with, without) = (long.answer, without.answer);
-            let line = case.line(operation, Some(LONG));
+            let line = case.line(operation, Lent { words: Some(case.words), list: Some(LONG) });
             return Err(format!("{with:?} with a list that suffices, {without:?} without one\n    {line}"));
         }
         let lent = case.lent().unwrap_or_else(|| self.length(long.list.len()));
         let due = case.due(operation, Some(lent)).unwrap_or_else(|| long.with_list(lent));
-        let with = self.compare(ways(), case, operation, Some(lent), Some(due))?;
+        let with = self.compare_all(ways, case, operation, Some(lent), Some(due))?;
         Ok((without.answer, with.answer))
     }
 }
@@ -346,7 +414,7 @@ pub fn agree<C: Borrow<Case>>(what: &str, cases: impl IntoIterator<Item = C>, bu
 #[cfg(test)]
 mod tests {
     use super::*;
-    use yardstick::cards::{constant, module, path, raw, ty};
+    use yardstick::cards::{constant, extern_module, module, nested, path, raw, ty};
     use yardstick::own;
 
     fn case() -> Case {
@@ -355,15 +423,18 @@ mod tests {
         Case::new(path("crate"), module("m", &body), 1000, WORDS)
     }
 
+    const TREE: &Way = &WAYS[WAYS.len() - 2];
+
     /// What is said of tree beside another; nothing, if nothing is.
     fn beside(call: Call, list_call: ListCall, case: &Case, operation: Operation) -> String {
-        let other = Way { what: "other", call, list_call, own_words: false };
-        let tree = WAYS.iter().find(|way| way.what == "tree").unwrap();
-        let tree = Way { what: "tree", ..*tree };
+        said_of(Way { what: "other", call, list_call, works: false }, case, operation)
+    }
+
+    fn said_of(other: Way, case: &Case, operation: Operation) -> String {
         let mut buffers = Buffers::new([]);
+        let ways = [other, Way { what: "tree", ..*TREE }];
         // Often enough that each length is drawn.
-        let ways = [other, tree];
-        (0..100).find_map(|_| buffers.answers(&ways, case, operation).err()).unwrap_or_default()
+        (0..40).find_map(|_| buffers.answers(&ways, case, operation).err()).unwrap_or_default()
     }
 
     fn tree_list(
@@ -371,11 +442,11 @@ mod tests {
         card: &[u8],
         root: &[u8],
         out: &mut [u8],
-        words: usize,
+        words: Words,
         list: &mut [u32],
         entries: &mut u32,
     ) -> Answer {
-        counted(tree::shorten_places(operation, card, root, out, words, list), entries)
+        (TREE.list_call)(operation, card, root, out, words, list, entries)
     }
 
     #[test]
@@ -393,7 +464,7 @@ mod tests {
     #[test]
     fn the_same_way_twice() {
         for operation in Operation::BOTH {
-            assert_eq!(beside(tree::shorten, tree_list, &case(), operation), "");
+            assert_eq!(beside(TREE.call, tree_list, &case(), operation), "");
         }
     }
 
@@ -401,7 +472,7 @@ mod tests {
     #[test]
     fn operations_are_told_apart() {
         let upstream: Call =
-            |_, card, root, out, words| tree::shorten(Operation::Upstream, card, root, out, words);
+            |_, card, root, out, words| (TREE.call)(Operation::Upstream, card, root, out, words);
         let upstream_list: ListCall = |_, card, root, out, words, list, entries| {
             tree_list(Operation::Upstream, card, root, out, words, list, entries)
         };
@@ -409,7 +480,7 @@ mod tests {
             let case = Case::new(c.root, c.card.clone(), c.card.len() * MOST_TIMES, c.words);
             let said = beside(upstream, tree_list, &case, Operation::Straight);
             assert!(said.starts_with("other answers ") && said.ends_with(" x x"), "{}", c.sort);
-            let said = beside(tree::shorten, upstream_list, &case, Operation::Straight);
+            let said = beside(TREE.call, upstream_list, &case, Operation::Straight);
             assert!(said.contains("other answers ") && said.contains("\n    straight "), "{}", c.sort);
         }
     }
@@ -420,7 +491,7 @@ mod tests {
     }
 
     fn faults_are_found_by(operation: Operation) {
-        let said = |list_call| beside(tree::shorten, list_call, &case(), operation);
+        let said = |list_call| beside(TREE.call, list_call, &case(), operation);
         // Another word or byte behind what is due, another number of entries.
         let word = said(|operation, card, root, out, words, list, entries| {
             let answer = tree_list(operation, card, root, out, words, list, entries);
@@ -493,9 +564,10 @@ mod tests {
         case.out = 20;
         for operation in Operation::BOTH {
             let said = beside(
-                tree::shorten,
-                |operation, card, root, out, words, list, entries| {
-                    tree_list(operation, card, root, &mut [0; 1000], words, &mut list.to_vec(), &mut 0)?;
+                TREE.call,
+                |operation, card, root, out, mut words, list, entries| {
+                    let first = words.as_deref_mut();
+                    tree_list(operation, card, root, &mut [0; 1000], first, &mut list.to_vec(), &mut 0)?;
                     tree_list(operation, card, root, out, words, list, entries)
                 },
                 &case,
@@ -503,6 +575,107 @@ mod tests {
             );
             assert!(said.contains("other answers Err((10, 0))"), "{said}");
             assert!(said.contains("not Err((9, 0))"), "{said}");
+        }
+    }
+
+    /// A card with so many pairs.
+    fn with_pairs(count: usize, words: usize) -> Case {
+        let body: Vec<_> = (0..count).map(|i| nested(extern_module(i.to_string()))).collect();
+        Case::new(path("crate"), module("m", &body), MOST_CARD, words)
+    }
+
+    /// Leaves the words as the console's call does.
+    fn leave(answer: Answer, words: Words) {
+        if let (Ok(_) | Err((8..=10, _)), Some(words)) = (answer, words) {
+            words.fill(0);
+        }
+    }
+
+    /// tree with words to work in; this leaves them.
+    macro_rules! working {
+        ($leave:expr) => {
+            Way {
+                what: "other",
+                call: |operation, card, root, out, mut words| {
+                    let answer = (TREE.call)(operation, card, root, out, words.as_deref_mut());
+                    $leave(answer, words);
+                    answer
+                },
+                list_call: |operation, card, root, out, mut words, list, entries| {
+                    let answer = tree_list(operation, card, root, out, words.as_deref_mut(), list, entries);
+                    $leave(answer, words);
+                    answer
+                },
+                works: true,
+            }
+        };
+    }
+
+    #[test]
+    fn work_words() {
+        let short = |words| Case { out: 20, words, ..case() };
+        let unsound = |words| Case { card: vec![2, 0, 0, 0, 0x60, 0], words, ..case() };
+        let cases =
+            [0, 2047, 2048, 9999].map(|words| [Case { words, ..case() }, short(words), unsound(words)]);
+        let full = [2048, 2052].map(|words| with_pairs(513, words));
+        for case in cases.into_iter().flatten().chain(full) {
+            for operation in Operation::BOTH {
+                assert_eq!(said_of(working!(leave), &case, operation), "");
+            }
+        }
+        let found = |other, case: &Case, answer: &str| {
+            let said = said_of(other, case, Operation::Upstream);
+            assert!(said.contains(&format!(" and other work words, not {answer}")), "{said}");
+        };
+        // They stay as they were.
+        fn nothing(_: Answer, _: Words) {}
+        found(working!(nothing), &case(), "Ok(");
+        found(working!(nothing), &short(WORDS), "Err((9, 0))");
+        found(working!(nothing), &with_pairs(513, WORDS), "Err((8, 0))");
+        fn but_10(answer: Answer, words: Words) {
+            leave(answer, words.filter(|_| answer != Err((10, 0))));
+        }
+        found(working!(but_10), &case(), "Err((10, 0))");
+        // All but the last.
+        fn but_last(answer: Answer, words: Words) {
+            leave(answer, words.and_then(|words| Some(words.split_last_mut()?.1)));
+        }
+        found(working!(but_last), &case(), "Ok(");
+        // They are cleared after any answer.
+        fn always(_: Answer, words: Words) {
+            leave(Ok(0), words);
+        }
+        found(working!(always), &unsound(WORDS), "Err((4, 6))");
+        found(working!(always), &unsound(1), "Err((1, 0))");
+    }
+
+    /// One that takes no more words than its own, and one whose own are more than they should be.
+    #[test]
+    fn limits_are_told_apart() {
+        let fewer: Call = |operation, card, root, out, words| {
+            let answer = (TREE.call)(operation, card, root, out, None);
+            leave(answer, words);
+            answer
+        };
+        let more: Call = |operation, card, root, out, words| {
+            let lent = words.as_ref().map_or(4096, |words| words.len());
+            let answer = tree::shorten(operation, card, root, out, lent);
+            leave(answer, words);
+            answer
+        };
+        for operation in Operation::BOTH {
+            let said = |call, words| {
+                let other = Way { call, ..working!(leave) };
+                said_of(other, &with_pairs(513, words), operation)
+            };
+            assert_eq!(said(fewer, 2051), "");
+            let found = said(fewer, 2052);
+            assert!(found.starts_with("other answers Err((8, 0)), not Ok("), "{found}");
+            for words in [1, 2048, 2052] {
+                let found = said(more, words);
+                assert!(found.starts_with("other with its own words answers Ok("), "{found}");
+                assert!(found.ends_with(" 2048 x x") || found.ends_with(" 2048"), "{found}");
+            }
         }
     }
 
@@ -534,7 +707,7 @@ mod tests {
         let mut other = due.clone();
         other.list[3] += 1;
         let said = answers(words, other).unwrap_err();
-        assert!(said.contains("with another list") && said.contains(&case.line(operation, Some(words))));
+        assert!(said.contains("with another list") && said.contains(&line(&case, operation, Some(words))));
         // What is stated of one operation says nothing of the other.
         for other in Operation::BOTH {
             let given = Given { answer: Err((9, 0)), output: vec![], list: vec![] };
@@ -543,12 +716,17 @@ mod tests {
         }
     }
 
+    /// As it is lent.
+    fn line(case: &Case, operation: Operation, list: Option<usize>) -> String {
+        case.line(operation, Lent { words: Some(case.words), list })
+    }
+
     /// A line is that of the vectors: `old` only with a list, `straight` with x for none and for no counts.
     #[test]
     fn lines() {
         let mut case = case();
         (case.root, case.card) = (vec![1], vec![2]);
-        let line = |operation, lent| case.line(operation, lent);
+        let line = |operation, list| line(&case, operation, list);
         assert_eq!(line(Operation::Upstream, None), "01 02 1000 2048");
         assert_eq!(line(Operation::Upstream, Some(4)), "old 01 02 1000 2048 4");
         assert_eq!(line(Operation::Straight, None), "straight 01 02 1000 2048 x x");

@@ -11,6 +11,16 @@ extern "C" {
         out: *mut u8,
         out_len: usize,
     ) -> u64;
+    fn vegashol_shorten_work(
+        card: *const u8,
+        card_len: usize,
+        root: *const u8,
+        root_len: usize,
+        out: *mut u8,
+        out_len: usize,
+        work: *mut u32,
+        work_len: usize,
+    ) -> u64;
     fn vegashol_shorten_places(
         card: *const u8,
         card_len: usize,
@@ -18,6 +28,19 @@ extern "C" {
         root_len: usize,
         out: *mut u8,
         out_len: usize,
+        list: *mut u32,
+        list_len: usize,
+        entries: *mut u32,
+    ) -> u64;
+    fn vegashol_shorten_places_work(
+        card: *const u8,
+        card_len: usize,
+        root: *const u8,
+        root_len: usize,
+        out: *mut u8,
+        out_len: usize,
+        work: *mut u32,
+        work_len: usize,
         list: *mut u32,
         list_len: usize,
         entries: *mut u32,
@@ -30,6 +53,16 @@ extern "C" {
         out: *mut u8,
         out_len: usize,
     ) -> u64;
+    fn vegashol_straight_work(
+        card: *const u8,
+        card_len: usize,
+        root: *const u8,
+        root_len: usize,
+        out: *mut u8,
+        out_len: usize,
+        work: *mut u32,
+        work_len: usize,
+    ) -> u64;
     fn vegashol_straight_places(
         card: *const u8,
         card_len: usize,
@@ -37,6 +70,19 @@ extern "C" {
         root_len: usize,
         out: *mut u8,
         out_len: usize,
+        list: *mut u32,
+        list_len: usize,
+        entries: *mut u32,
+    ) -> u64;
+    fn vegashol_straight_places_work(
+        card: *const u8,
+        card_len: usize,
+        root: *const u8,
+        root_len: usize,
+        out: *mut u8,
+        out_len: usize,
+        work: *mut u32,
+        work_len: usize,
         list: *mut u32,
         list_len: usize,
         entries: *mut u32,
@@ -50,15 +96,34 @@ fn unpacked(packed: u64) -> Answer {
     }
 }
 
-/// It brings its own work words.
-pub fn shorten(operation: Operation, card: &[u8], root: &[u8], out: &mut [u8]) -> Answer {
-    let call = match operation {
-        Operation::Upstream => vegashol_shorten,
-        Operation::Straight => vegashol_straight,
+/// In the work words lent; without any it brings its own.
+pub fn shorten(
+    operation: Operation,
+    card: &[u8],
+    root: &[u8],
+    out: &mut [u8],
+    words: Option<&mut [u32]>,
+) -> Answer {
+    let (card, card_len) = (card.as_ptr(), card.len());
+    let (root, root_len) = (root.as_ptr(), root.len());
+    let (out, out_len) = (out.as_mut_ptr(), out.len());
+    // The functions ask nothing of their slices but that they are slices.
+    let packed = match words {
+        None => {
+            let call = match operation {
+                Operation::Upstream => vegashol_shorten,
+                Operation::Straight => vegashol_straight,
+            };
+            unsafe { call(card, card_len, root, root_len, out, out_len) }
+        }
+        Some(work) => {
+            let call = match operation {
+                Operation::Upstream => vegashol_shorten_work,
+                Operation::Straight => vegashol_straight_work,
+            };
+            unsafe { call(card, card_len, root, root_len, out, out_len, work.as_mut_ptr(), work.len()) }
+        }
     };
-    // The function asks nothing of its slices but that they are slices.
-    let packed =
-        unsafe { call(card.as_ptr(), card.len(), root.as_ptr(), root.len(), out.as_mut_ptr(), out.len()) };
     unpacked(packed)
 }
 
@@ -68,26 +133,33 @@ pub fn shorten_places(
     card: &[u8],
     root: &[u8],
     out: &mut [u8],
+    words: Option<&mut [u32]>,
     list: &mut [u32],
     entries: &mut u32,
 ) -> Answer {
-    let call = match operation {
-        Operation::Upstream => vegashol_shorten_places,
-        Operation::Straight => vegashol_straight_places,
-    };
-    // Nor does this one; the number of entries is the caller's own.
-    let packed = unsafe {
-        call(
-            card.as_ptr(),
-            card.len(),
-            root.as_ptr(),
-            root.len(),
-            out.as_mut_ptr(),
-            out.len(),
-            list.as_mut_ptr(),
-            list.len(),
-            entries,
-        )
+    let (card, card_len) = (card.as_ptr(), card.len());
+    let (root, root_len) = (root.as_ptr(), root.len());
+    let (out, out_len) = (out.as_mut_ptr(), out.len());
+    let (list, list_len) = (list.as_mut_ptr(), list.len());
+    // Nor do these; the number of entries is the caller's own.
+    let packed = match words {
+        None => {
+            let call = match operation {
+                Operation::Upstream => vegashol_shorten_places,
+                Operation::Straight => vegashol_straight_places,
+            };
+            unsafe { call(card, card_len, root, root_len, out, out_len, list, list_len, entries) }
+        }
+        Some(work) => {
+            let call = match operation {
+                Operation::Upstream => vegashol_shorten_places_work,
+                Operation::Straight => vegashol_straight_places_work,
+            };
+            let (work, work_len) = (work.as_mut_ptr(), work.len());
+            unsafe {
+                call(card, card_len, root, root_len, out, out_len, work, work_len, list, list_len, entries)
+            }
+        }
     };
     unpacked(packed)
 }

@@ -57,12 +57,11 @@ pub enum Mark {
 }
 
 /// The last request of document 02 that is answered here. Vectors of later ones aren't read.
-pub const LANDED: u32 = 4;
-/// Work words: fewer are refused, and the console's call brings so many.
+pub const LANDED: u32 = 5;
+/// Work words: fewer are refused, and the console's call brings so many where none are lent.
 pub const WORDS: usize = 2048;
 pub const MOST_CARD: usize = 32768;
 pub const MOST_ROOT: usize = 256;
-pub const MOST_PAIRS: usize = 512;
 /// No output is longer than so many times its card.
 pub const MOST_TIMES: usize = 42;
 /// The same of straight shortening.
@@ -70,3 +69,8 @@ pub const MOST_TIMES_STRAIGHT: usize = 4;
 /// No list has more entries: a path that is shortened takes 24 bytes of the card or more and has two at
 /// most, its own and a use's.
 pub const MOST_ENTRIES: usize = MOST_CARD / 24 * 2;
+
+/// How many pairs a module may have where so many work words are lent.
+pub fn most_pairs(words: usize) -> usize {
+    (words / 4).min(1024)
+}

@@ -53,12 +53,18 @@ fn random(count: usize, seed: u64) -> impl Iterator<Item = Case> {
 struct Class {
     what: String,
     cases: Vec<Case>,
+    /// Whether work words are lent. Else each call brings its own.
+    lends: bool,
 }
 
+/// The root of every class.
+const CRATE: [u8; 6] = [2, 0, 0, 0, 0x11, 0];
+
+/// Those for which each call brings its own work words.
 fn of_classes() -> Vec<Class> {
-    // Under the root crate, with what the program shorten lends.
-    let made = |card| Case::new(vec![2, 0, 0, 0, 0x11, 0], card, 65536, WORDS);
-    let one = |what: &str, card| Class { what: what.to_string(), cases: vec![made(card)] };
+    // With the out buffer that the program shorten lends.
+    let made = |card| Case::new(CRATE.to_vec(), card, 65536, WORDS);
+    let one = |what: &str, card| Class { what: what.to_string(), cases: vec![made(card)], lends: false };
     let mut list = vec![one("13 bytes", classes::least()), one("small", classes::small())];
     list.extend([1, 4, 16, 32].map(|k| one(&format!("{k} KB"), classes::typical(k << 10))));
     list.extend([8, 32, 128, 512].map(|n| one(&format!("{n} pairs"), classes::pairs(n))));
@@ -69,6 +75,18 @@ fn of_classes() -> Vec<Class> {
     list.push(one("colliding", classes::colliding(480)));
     list.push(one("deep types", classes::deep_types(50)));
     list
+}
+
+/// Those for which words are lent, as many as the most pairs take.
+fn of_lent_classes() -> Vec<Class> {
+    let one = |what: &str, card| {
+        let case = Case::new(CRATE.to_vec(), card, 4 * MOST_CARD, 4096);
+        Class { what: what.to_string(), cases: vec![case], lends: true }
+    };
+    let paths = [(128, "128 paths"), (512, "512 paths"), (700, "700 paths"), (1024, "1,024 paths")];
+    let pairs = [(700, "700 pairs"), (1024, "1,024 pairs")];
+    let of_paths = paths.map(|(n, what)| one(what, classes::paths(n)));
+    of_paths.into_iter().chain(pairs.map(|(n, what)| one(what, classes::close_pairs(n)))).collect()
 }
 
 /// A way by an operation, without a list or with one that is long enough.
@@ -91,16 +109,22 @@ fn racers() -> Vec<Racer> {
 }
 
 impl Class {
-    fn turn(&self, racer: Racer, passes: usize, out: &mut [u8], list: &mut [u32]) -> Duration {
+    fn turn(&self, racer: Racer, passes: usize, buffers: &mut Buffers) -> Duration {
+        let Buffers { out, words, list, .. } = buffers;
         // Cleared before each turn, out of the time, for all alike.
         let lent = self.cases.iter().map(|case| case.out).max().unwrap_or(0);
         out[..lent].fill(0);
-        list.fill(0);
+        list[..LONG].fill(0);
         let Racer { way, operation, listed } = racer;
+        let mut words = self.lends.then_some(&mut words[..]);
         match listed {
-            false => self.time(passes, |case| case.call(way, operation, black_box(out))),
-            true => self
-                .time(passes, |case| case.list_call(way, operation, black_box(out), black_box(list), &mut 0)),
+            false => self.time(passes, |case| {
+                case.call(way, operation, black_box(out), black_box(words.as_deref_mut()))
+            }),
+            true => self.time(passes, |case| {
+                let (words, list) = (words.as_deref_mut(), &mut list[..LONG]);
+                case.list_call(way, operation, black_box(out), black_box(words), black_box(list), &mut 0)
+            }),
         }
     }
 
@@ -115,8 +139,27 @@ impl Class {
     }
 
     /// Microseconds of a card by each racer.
-    fn measure(&self, racers: &[Racer], out: &mut [u8], list: &mut [u32]) -> Vec<f64> {
-        medians(self.cases.len(), racers.len(), |i, passes| self.turn(racers[i], passes, out, list))
+    fn measure(&self, racers: &[Racer], buffers: &mut Buffers) -> Vec<f64> {
+        medians(self.cases.len(), racers.len(), |i, passes| self.turn(racers[i], passes, buffers))
+    }
+
+    /// How many bytes a card has and how many its output, on an average.
+    fn bytes(&self, buffers: &mut Buffers) -> (usize, usize) {
+        let Buffers { out, words, .. } = buffers;
+        let output = |case: &Case| {
+            let words = self.lends.then_some(&mut words[..]);
+            case.call(&WAYS[0], Operation::Upstream, out, words).unwrap_or(0)
+        };
+        let card: usize = self.cases.iter().map(|case| case.card.len()).sum();
+        let output: usize = self.cases.iter().map(output).sum();
+        (card / self.cases.len(), output / self.cases.len())
+    }
+
+    /// How many pairs its outermost modules have.
+    fn pairs(&self) -> f64 {
+        let pairs =
+            |case: &Case| tree::outermost(&case.card, &case.root, case.words).map_or(0, |m| m.pairs.len());
+        self.cases.iter().map(pairs).sum::<usize>() as f64 / self.cases.len() as f64
     }
 
     /// Its sound cards with a byte behind them: read to their end, and refused there.
@@ -127,7 +170,7 @@ impl Class {
             card.push(0);
             Case::new(c.root.clone(), card, c.out, c.words)
         });
-        let class = Class { what: self.what.clone(), cases: read.collect() };
+        let class = Class { what: self.what.clone(), cases: read.collect(), lends: false };
         for case in &class.cases {
             let due = Err((7, case.card.len() as u32 - 1));
             assert!(READERS.iter().all(|(_, read)| read(case, out) == due), "read otherwise");
@@ -144,7 +187,7 @@ impl Class {
 type Reader = fn(&Case, &mut [u8]) -> Answer;
 
 const READERS: [(&str, Reader); 2] = [
-    (WAYS[0].what, |case, out| case.call(&WAYS[0], Operation::Upstream, out)),
+    (WAYS[0].what, |case, out| case.call(&WAYS[0], Operation::Upstream, out, None)),
     ("reader", |case, _| reader::admit(&case.card, &case.root, case.words).map(|()| 0)),
 ];
 
@@ -168,37 +211,63 @@ fn medians(cards: usize, racers: usize, mut turn: impl FnMut(usize, usize) -> Du
     times.into_iter().zip(passes).map(median).collect()
 }
 
-fn report(classes: &[Class], out: &mut [u8], list: &mut [u32]) {
+/// The columns that all ways share: which class, its bytes, and each way's time.
+fn print_head() {
+    print!("{:11}  {:>8}  {:>9}", "class", "bytes in", "bytes out");
+    WAYS.iter().for_each(|way| print!("  {:>9}", way.what));
+}
+
+fn print_times(class: &Class, times: &[f64], buffers: &mut Buffers) {
+    let (card, output) = class.bytes(buffers);
+    print!("{:11}  {card:8}  {output:9}", class.what);
+    times.iter().for_each(|time| print!("  {time:9.2}"));
+}
+
+/// Without words lent.
+fn report(classes: &[Class], buffers: &mut Buffers) {
     println!("medians of {ROUNDS} rounds: microseconds of a card, then the times one takes of another's;");
     let first = format!("{}/{}", WAYS[0].what, WAYS[1].what);
     println!(
         "with list: {first}, both with a list of places; straight: {first}, both by straight shortening"
     );
-    print!("{:10}  {:>8}  {:>9}", "class", "bytes in", "bytes out");
-    WAYS.iter().for_each(|way| print!("  {:>9}", way.what));
+    print_head();
     let ratios = || (0..WAYS.len()).flat_map(|i| (i + 1..WAYS.len()).map(move |j| (i, j)));
     ratios().for_each(|(i, j)| print!("  {:>12}", format!("{}/{}", WAYS[i].what, WAYS[j].what)));
     println!("  {:>9}  {:>8}", "with list", "straight");
     let racers = racers();
     for class in classes {
-        let cards = class.cases.len();
-        let bytes: usize = class.cases.iter().map(|c| c.card.len()).sum();
-        let length = |c: &Case| c.call(&WAYS[0], Operation::Upstream, out).unwrap_or(0);
-        let output: usize = class.cases.iter().map(length).sum();
-        let times = class.measure(&racers, out, list);
+        let times = class.measure(&racers, buffers);
         let (without, rest) = times.split_at(WAYS.len());
         let (with, straight) = rest.split_at(2);
-        print!("{:10}  {:8}  {:9}", class.what, bytes / cards, output / cards);
-        without.iter().for_each(|time| print!("  {time:9.2}"));
+        print_times(class, without, buffers);
         ratios().for_each(|(i, j)| print!("  {:12.2}", without[i] / without[j]));
         println!("  {:9.2}  {:8.2}", with[0] / with[1], straight[0] / straight[1]);
+    }
+}
+
+/// With words lent, by the old operation without a list.
+fn report_lent(classes: &[Class], buffers: &mut Buffers) {
+    let (first, others) = (&WAYS[0], &WAYS[1..]);
+    println!("with 4,096 words lent: microseconds of a card, nanoseconds of a pair by {},", first.what);
+    println!("then the times it takes of another's");
+    print_head();
+    print!("  {:>9}", "of a pair");
+    others.iter().for_each(|way| print!("  {:>12}", format!("{}/{}", first.what, way.what)));
+    println!();
+    let racers = &racers()[..WAYS.len()];
+    for class in classes {
+        let times = class.measure(racers, buffers);
+        print_times(class, &times, buffers);
+        print!("  {:9.1}", times[0] * 1e3 / class.pairs());
+        times[1..].iter().for_each(|time| print!("  {:12.2}", times[0] / time));
+        println!();
     }
 }
 
 /// Reading alone.
 fn report_reading(classes: &[Class], out: &mut [u8]) {
     println!("reading: the same cards with a byte behind them, read to their end and refused there");
-    print!("{:10}  {:>8}", "class", "bytes in");
+    print!("{:11}  {:>8}", "class", "bytes in");
     READERS.iter().for_each(|(what, _)| print!("  {what:>9}"));
     println!("  {:>14}", READERS.map(|(what, _)| what).join("/"));
     for class in classes {
@@ -206,7 +275,7 @@ fn report_reading(classes: &[Class], out: &mut [u8]) {
         let bytes: usize = class.cases.iter().map(|c| c.card.len()).sum();
         let times =
             medians(class.cases.len(), READERS.len(), |i, passes| class.read(READERS[i].1, passes, out));
-        print!("{:10}  {:8}", class.what, bytes / class.cases.len());
+        print!("{:11}  {:8}", class.what, bytes / class.cases.len());
         times.iter().for_each(|time| print!("  {time:9.2}"));
         println!("  {:14.2}", times[0] / times[1]);
     }
@@ -244,17 +313,17 @@ fn agree_on(files: &[Vectors], buffers: &mut Buffers) -> bool {
     same
 }
 
-/// The vectors of document 01 as a class. The console's call can't be given fewer work words than it
-/// brings.
+/// The vectors of document 01 as a class, those that lend fewer work words than the console's call brings left
+/// out.
 fn as_class(files: Vec<Vectors>) -> Option<Class> {
     let vectors = files.into_iter().next()?;
     let cases: Vec<Case> = vectors.cases.into_iter().filter(|c| c.words >= WORDS).collect();
-    (!cases.is_empty()).then(|| Class { what: "vectors".to_string(), cases })
+    (!cases.is_empty()).then(|| Class { what: "vectors".to_string(), cases, lends: false })
 }
 
 fn run(folder: Option<&str>, cards: usize, seed: u64) -> Result<bool, String> {
     let vectors = vectors_of(folder)?;
-    let mut classes = of_classes();
+    let (mut classes, lent_classes) = (of_classes(), of_lent_classes());
     let mut buffers = buffers_for(&vectors);
     let own = own::cases().into_iter().chain(own::differing()).map(|c| {
         let out = c.card.len() * MOST_TIMES;
@@ -262,14 +331,16 @@ fn run(folder: Option<&str>, cards: usize, seed: u64) -> Result<bool, String> {
     });
     let mut same = agree_on(&vectors, &mut buffers);
     same &= agree("own cards", own, &mut buffers);
-    same &= agree("classes", classes.iter().flat_map(|class| &class.cases), &mut buffers);
+    let all = classes.iter().chain(&lent_classes);
+    same &= agree("classes", all.flat_map(|class| &class.cases), &mut buffers);
     same &= agree("random cards", random(cards, seed), &mut buffers);
     if !same {
         println!("nothing is measured");
         return Ok(false);
     }
     classes.extend(as_class(vectors));
-    report(&classes, &mut buffers.out, &mut buffers.list[..LONG]);
+    report(&classes, &mut buffers);
+    report_lent(&lent_classes, &mut buffers);
     report_reading(&classes, &mut buffers.out);
     Ok(true)
 }
@@ -293,14 +364,14 @@ fn racer(name: &str) -> Result<Racer, String> {
 fn class(name: &str, folder: Option<&str>) -> Result<(Class, Buffers), String> {
     let vectors = vectors_of(folder)?;
     let buffers = buffers_for(&vectors);
-    let classes = of_classes().into_iter().chain(as_class(vectors));
+    let classes = of_classes().into_iter().chain(of_lent_classes()).chain(as_class(vectors));
     let class = { classes }.find(|c| c.what == name).ok_or("no such class")?;
     Ok((class, buffers))
 }
 
 fn only(way: &str, name: &str, times: &str, folder: Option<&str>) -> Result<bool, String> {
     let (class, mut buffers) = class(name, folder)?;
-    class.turn(racer(way)?, number(times)?, &mut buffers.out, &mut buffers.list[..LONG]);
+    class.turn(racer(way)?, number(times)?, &mut buffers);
     Ok(true)
 }
 

@@ -1,7 +1,7 @@
 //! Random cards, sound and damaged.
-use crate::cards::{extern_module, kept, list, nested, path, record, select, text, Bytes};
+use crate::cards::{extern_module, kept, list, nested, only_types, path, record, select, text, Bytes};
 use crate::rows::{Place, Shape, What, DECLARATIONS, ROWS};
-use crate::{MOST_CARD, WORDS};
+use crate::{most_pairs, MOST_CARD, WORDS};
 
 pub struct Case {
     pub root: Vec<u8>,
@@ -98,6 +98,12 @@ const ROOTS: [&str; 9] = [
 
 const NAMELESS_ROOTS: [&str; 6] = ["crate::", "::!", "::::a", "crate::!::a", "::a::b::!", "Self::"];
 
+/// Work words, too few of them and more than the least that suffice.
+const FEW_WORDS: [usize; 4] = [0, 1, 512, WORDS - 1];
+const MORE_WORDS: [usize; 14] =
+    [2049, 2051, 2052, 2055, 2056, 2800, 3000, 4092, 4095, 4096, 4097, 4100, 8192, MOST_WORDS];
+pub const MOST_WORDS: usize = 9999;
+
 /// Cards without end, the same for the same seed.
 pub struct Cards {
     draws: Draws,
@@ -112,8 +118,9 @@ pub struct Cards {
     declarations: usize,
     /// Below this level it ends soon.
     deepest: u32,
-    /// So many modules are to have about as many pairs as fit.
+    /// So many modules are to have about as many pairs as fit, and how many do.
     full: usize,
+    most: usize,
 }
 
 impl Cards {
@@ -128,6 +135,7 @@ impl Cards {
             declarations: 0,
             deepest: 0,
             full: 0,
+            most: 0,
         }
     }
 
@@ -248,6 +256,19 @@ impl Cards {
         it
     }
 
+    /// Declarations with nearly as many pairs as a module may have, or one too many: own names or paths.
+    fn about_full(&mut self) -> Vec<Bytes> {
+        let name = |i: usize| [b'A' + (i / 40) as u8, b'A' + (i % 40) as u8];
+        let names = (0..self.most - 14 + self.draws.below(16)).map(name);
+        match self.draws.once(2) {
+            true => names.map(|name| nested(extern_module(name))).collect(),
+            false => {
+                let of_path = |name| record(0x2D, &[select(path(""), name)]);
+                vec![only_types(&names.map(of_path).collect::<Vec<_>>())]
+            }
+        }
+    }
+
     fn module(&mut self, depth: u32) -> Bytes {
         let name = self.name();
         let prefixes = match self.prefixes.last() {
@@ -261,8 +282,7 @@ impl Cards {
         let mut body = Vec::new();
         if self.full > 0 && self.draws.once(2) {
             self.full -= 1;
-            let two = |i: usize| [b'a' + (i / 26) as u8, b'a' + (i % 26) as u8];
-            body.extend((0..506 + self.draws.below(10)).map(|i| nested(extern_module(two(i)))));
+            body = self.about_full();
         }
         for _ in 0..self.draws.below(10).min(self.declarations) {
             self.declarations = self.declarations.saturating_sub(1);
@@ -413,7 +433,15 @@ impl Iterator for Cards {
         self.root = path(self.draws.of(&ROOTS));
         self.declarations = self.draws.of(&[2, 5, 20, 60]);
         self.deepest = self.draws.of(&[12, 20, 44, 60]);
-        self.full = if self.draws.once(60) { 1 + self.draws.below(3) } else { 0 };
+        let words = match self.draws.below(80) {
+            0 => self.draws.of(&FEW_WORDS),
+            1..=29 => WORDS,
+            _ => self.draws.of(&MORE_WORDS),
+        };
+        self.most = most_pairs(words.max(WORDS));
+        // Of the largest there is room for one.
+        let most_full = if self.most < 600 { 2 } else { 1 };
+        self.full = if self.draws.once(40) { 1 + self.draws.below(most_full) } else { 0 };
         let mut card = self.module(1);
         if self.draws.once(150) && card[4] == 0x60 && card.len() < MOST_CARD - 5 {
             let size = MOST_CARD - 3 + self.draws.below(6);
@@ -437,12 +465,6 @@ impl Iterator for Cards {
             4 => root = path(self.draws.of(&NAMELESS_ROOTS)),
             _ => {}
         }
-        let words = match self.draws.below(80) {
-            0 => self.draws.of(&[0, 1, WORDS - 1]),
-            1..=4 => WORDS + 1,
-            5..=8 => 2 * WORDS,
-            _ => WORDS,
-        };
         Some(Case { root, card, words })
     }
 }

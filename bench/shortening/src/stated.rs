@@ -69,6 +69,54 @@ pub fn limits() -> Vec<Stated> {
     ]
 }
 
+/// Short names, for long cards.
+fn brief(i: u32) -> String {
+    format!("{}{}", char::from(b'A' + (i / 40) as u8), char::from(b'A' + (i % 40) as u8))
+}
+
+/// So many declarations that have a pair each.
+fn own(count: u32) -> Vec<Bytes> {
+    (0..count).map(|i| nested(extern_module(brief(i)))).collect()
+}
+
+/// What the program shorten is run on, and what it writes: as many pairs as the words that it lends have room for.
+pub fn most_names() -> (Bytes, Bytes) {
+    let with = |uses: &[Bytes], of| m(&[uses, &[implementation(&[], of, &[])], &own(1023)].concat());
+    (with(&[], ty("::B")), with(&[use_decl("::B")], short("::B")))
+}
+
+/// Request 5. The operations answer alike.
+pub fn full_tables() -> Vec<Stated> {
+    let pairs = |count| m(&own(count));
+    let in_b = |count| m(&[nested(module("b", &own(count)))]);
+    // Path types, of which nothing stays as it was.
+    let spelled: Vec<String> = (0..700).map(|i| format!("::{}", brief(i))).collect();
+    let of_each = |made: fn(&str) -> Bytes| -> Vec<Bytes> { spelled.iter().map(|of| made(of)).collect() };
+    let types = m(&[only_types(&of_each(ty))]);
+    let short_types = m(&[of_each(use_decl), vec![only_types(&of_each(short))]].concat());
+    let accepted = |what, words, card: Bytes, output| Stated { words, ..accepted(what, card, output) };
+    let nothing = |what, words, card: Bytes| accepted(what, words, card.clone(), card);
+    let refused = |what, words, card, place| refused(what, card, words, 8, place);
+    vec![
+        nothing("512 pairs, 4,096 words", 4096, pairs(512)),
+        refused("513 pairs, 2,048 words", 2048, pairs(513), 0),
+        refused("513 pairs, 2,049 words", 2049, pairs(513), 0),
+        refused("513 pairs, 2,051 words", 2051, pairs(513), 0),
+        nothing("513 pairs, 2,052 words", 2052, pairs(513)),
+        refused("700 pairs, 2,799 words", 2799, types.clone(), 0),
+        accepted("700 pairs, 2,800 words", 2800, types, short_types),
+        refused("1,024 pairs, 4,095 words", 4095, pairs(1024), 0),
+        nothing("1,024 pairs, 4,096 words", 4096, pairs(1024)),
+        nothing("1,024 pairs, 8,192 words", 8192, pairs(1024)),
+        refused("1,025 pairs, 4,096 words", 4096, pairs(1025), 0),
+        refused("1,025 pairs, 4,100 words", 4100, pairs(1025), 0),
+        refused("1,025 pairs, 8,192 words", 8192, pairs(1025), 0),
+        // Behind heads of Mod and its body, three more fields of Mod, the head of ModDecl.
+        refused("513 pairs in a nested module, 2,048 words", 2048, in_b(513), 6 + 6 + 6 + 7 + 6 + 6),
+        nothing("513 pairs in a nested module, 2,052 words", 2052, in_b(513)),
+    ]
+}
+
 /// A function with this result, or with this type as its body.
 fn with_result(of: Bytes) -> Bytes {
     top_fn(function("f", &[], &[], list(&[of]), none()))

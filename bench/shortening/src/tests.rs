@@ -4,7 +4,8 @@ use crate::cards::*;
 use crate::random::Cards;
 use crate::stated::{self, constants, short, wrapped};
 use crate::Operation::{Straight, Upstream};
-use crate::{own, reader, tree, walk, Answer, Listed, Operation, MOST_TIMES, MOST_TIMES_STRAIGHT, WORDS};
+use crate::{most_pairs, own, reader, tree, walk};
+use crate::{Answer, Listed, Operation, MOST_TIMES, MOST_TIMES_STRAIGHT, WORDS};
 use std::collections::BTreeSet;
 
 /// The answer of both, and the output. With a list they give the same, and the places of the changed points.
@@ -196,13 +197,14 @@ fn proved_cards_by(operation: Operation) {
     assert_eq!(answer(&[], 100), Err((4, 0)));
 }
 
-/// Limits, wrong ports, what tells the operations apart, and paths without a name.
+/// Limits, wrong ports, what tells the operations apart, paths without a name, and full tables.
 #[test]
 fn stated_cards() {
     for operation in Operation::BOTH {
         let told_apart = stated::told_apart(operation);
-        let cases = [stated::limits(), stated::wrong_ports(operation), told_apart, stated::nameless()];
-        for case in cases.into_iter().flatten() {
+        let alike = [stated::limits(), stated::nameless(), stated::full_tables()];
+        let cases = alike.into_iter().chain([stated::wrong_ports(operation), told_apart]);
+        for case in cases.flatten() {
             let given = shorten(operation, &case.card, &case.root, case.out, case.words);
             assert_eq!(given, (case.answer, case.output), "{}", case.what);
             if let Some(lent) = case.lent {
@@ -210,6 +212,17 @@ fn stated_cards() {
                 assert_eq!(listed.0.map(|(length, _)| length), case.answer, "{}", case.what);
             }
         }
+    }
+}
+
+/// What the program shorten is run on takes all the words that it lends.
+#[test]
+fn most_names() {
+    let (card, output) = stated::most_names();
+    for operation in Operation::BOTH {
+        let given = |words| shorten(operation, &card, &path("crate"), 65536, words);
+        assert_eq!(given(4095), (Err((8, 0)), vec![]));
+        assert_eq!(given(4096), (Ok(output.len()), output.clone()));
     }
 }
 
@@ -290,18 +303,65 @@ fn short_lists() {
     }
 }
 
+fn extern_modules(count: usize) -> Vec<Bytes> {
+    (0..count).map(|i| nested(extern_module(i.to_string()))).collect()
+}
+
 /// A full table comes before too little room, an outer one before an inner.
 #[test]
 fn full_tables() {
-    let pairs =
-        |count: usize| m(&(0..count).map(|i| nested(extern_module(i.to_string()))).collect::<Vec<_>>());
+    let pairs = |count| m(&extern_modules(count));
     for operation in Operation::BOTH {
-        let answer = |card: &[u8]| answer(operation, card, 0, WORDS);
-        assert_eq!(answer(&pairs(512)), Err((9, 0)));
-        assert_eq!(answer(&pairs(513)), Err((8, 0)));
-        // Mod, Text, Kept, Text, List, ModDecl.
-        assert_eq!(answer(&m(&[nested(pairs(513))])), Err((8, 6 + 6 + 6 + 7 + 6 + 6)));
+        for words in [2048, 2052, 2800, 4096, 9999] {
+            let (answer, most) = (|card: &[u8]| answer(operation, card, 0, words), most_pairs(words));
+            assert_eq!(answer(&pairs(most)), Err((9, 0)));
+            assert_eq!(answer(&pairs(most + 1)), Err((8, 0)));
+            // Mod, Text, Kept, Text, List, ModDecl.
+            let inner = 6 + 6 + 6 + 7 + 6 + 6;
+            assert_eq!(answer(&m(&[nested(pairs(most + 1))])), Err((8, inner)));
+            // The nested module is one of its parent's pairs.
+            let with_nested = |count| m(&[vec![nested(pairs(300))], extern_modules(count)].concat());
+            assert_eq!(answer(&with_nested(most - 1)), Err((9, 0)));
+            assert_eq!(answer(&with_nested(most)), Err((8, 0)));
+        }
+        let both = m(&[vec![nested(pairs(513))], extern_modules(512)].concat());
+        assert_eq!([2048, 2052].map(|words| answer(operation, &both, 0, words)), [Err((8, 0)), Err((9, 0))]);
     }
+}
+
+/// A quarter of the words, rounded down, and at most 1,024.
+#[test]
+fn limits_of_pairs() {
+    let due = [
+        (2048, 512),
+        (2049, 512),
+        (2051, 512),
+        (2052, 513),
+        (2799, 699),
+        (2800, 700),
+        (4092, 1023),
+        (4095, 1023),
+        (4096, 1024),
+        (4097, 1024),
+        (4100, 1024),
+        (8192, 1024),
+        (usize::MAX, 1024),
+    ];
+    for (words, most) in due {
+        assert_eq!(most_pairs(words), most);
+        for operation in Operation::BOTH {
+            for (count, refused) in [(most - 1, false), (most, false), (most + 1, true)] {
+                let own = m(&extern_modules(count));
+                let of_paths = crate::classes::paths(count);
+                for card in [&own, &of_paths] {
+                    let full = answer(operation, card, card.len() * MOST_TIMES, words) == Err((8, 0));
+                    assert_eq!(full, refused, "{count} pairs, {words} words");
+                }
+            }
+        }
+    }
+    // Too few words come first, however many pairs.
+    assert_eq!(answer(Upstream, &m(&extern_modules(513)), 0, 2047), Err((1, 0)));
 }
 
 /// The cards that are measured are accepted with what is lent, and have the pairs they should.
@@ -310,14 +370,20 @@ fn classes() {
     use crate::classes::*;
     let cards = [least(), small(), one_name(512), nested_modules(200), crowded(), deep_types(50)];
     let sized = [1, 4, 16, 32].map(|k| typical(k << 10));
-    for card in cards.iter().chain(&sized).chain(&[8, 32, 128, 512].map(pairs)) {
-        assert!(Operation::BOTH.into_iter().all(|operation| answer(operation, card, 65536, WORDS).is_ok()));
-    }
+    let accepted = |card: &Vec<u8>, lent, words| {
+        Operation::BOTH.into_iter().all(|operation| answer(operation, card, lent, words).is_ok())
+    };
+    let with_pairs = [8, 32, 128, 512].map(pairs);
+    assert!(cards.iter().chain(&sized).chain(&with_pairs).all(|card| accepted(card, 65536, WORDS)));
+    let lent = [128, 512, 700, 1024].map(paths).into_iter().chain([700, 1024].map(close_pairs));
+    assert!({ lent }.all(|card| accepted(&card, 131072, 4096)));
     let root = path("crate");
-    let count = |card: &[u8]| tree::outermost(card, &root, WORDS).map(|mapping| mapping.pairs.len());
+    let count = |card: &[u8]| tree::outermost(card, &root, 4096).map(|mapping| mapping.pairs.len());
     assert_eq!([8, 32, 128, 512].map(|n| count(&pairs(n))), [8, 32, 128, 512].map(Ok));
     assert_eq!(count(&one_name(512)), Ok(512));
     assert_eq!(count(&crowded()), Ok(511));
+    assert_eq!([128, 512, 700, 1024].map(|n| count(&paths(n))), [128, 512, 700, 1024].map(Ok));
+    assert_eq!([700, 1024].map(|n| count(&close_pairs(n))), [700, 1024].map(Ok));
 }
 
 /// Each synonym taken as its display.
@@ -363,6 +429,8 @@ fn differing_cards() {
 #[test]
 fn random_cards() {
     let (mut numbers, mut kinds, mut differ) = (BTreeSet::new(), BTreeSet::new(), 0);
+    // With more words than the console's call brings: more pairs than fit into its own, and too many.
+    let (mut more, mut too_many) = (0, 0);
     for case in Cards::new(7).take(3000) {
         let [old, straight] = Operation::BOTH.map(|operation| {
             shorten(operation, &case.card, &case.root, case.card.len() * MOST_TIMES, case.words)
@@ -372,11 +440,15 @@ fn random_cards() {
             seen(output, &mut kinds);
         }
         differ += (old != straight) as usize;
+        let pairs = tree::outermost(&case.card, &case.root, case.words).map_or(0, |m| m.pairs.len());
+        more += (old.0.is_ok() && pairs > most_pairs(WORDS)) as usize;
+        too_many += (case.words > WORDS && matches!(old.0, Err((8, _)))) as usize;
     }
     assert_eq!(numbers, (0..=8).chain([11]).collect());
     let all = [0x01..=0x03, 0x10..=0x13, 0x20..=0x38, 0x40..=0x5E, 0x60..=0x6A, 0x70..=0x86];
     assert_eq!(kinds, all.into_iter().flatten().collect());
-    assert!(differ > 300, "{differ}");
+    assert!(differ > 250, "{differ}");
+    assert!(more > 2 && too_many > 2, "{more}, {too_many}");
 }
 
 /// Path types under Global, each with a short name of its own: few bytes for much that is put in.

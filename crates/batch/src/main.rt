@@ -83,18 +83,28 @@ fn alone(pass: Pass, card: &[u8], root: &[u8], out: &mut [u8]) -> Answer {
     shortening::shorten_alone(pass, card, root, out)
 }
 
-// Whether it answers the same and leaves as long an out buffer, at the front of own, the same.
+// Whether what is answered with 2048 work words may be answered otherwise with so many: 8, where these have room for more pairs.
+fn may_differ(a: Answer, words: usize) -> bool {
+    match a {
+        Answer::FullTable(_) => 2052 <= words,
+        _ => false,
+    }
+}
+
+// Whether it answers the same, where it must, and leaves as long an out buffer, at the front of own, the same.
 fn is_same_alone(
     pass: Pass,
     card: &[u8],
     root: &[u8],
     a: Answer,
     out: &[u8],
+    words: usize,
     own: &mut [u8],
 ) -> bool {
     let n = least(out.len(), own.len());
     let b = alone(pass, card, root, &mut own[..n]);
-    answers::packed(a) == answers::packed(b) && wire::same(out, wire::part(own, 0, n))
+    may_differ(b, words)
+        || answers::packed(a) == answers::packed(b) && wire::same(out, wire::part(own, 0, n))
 }
 
 fn answer(pass: Pass, card: &[u8], root: &[u8], out: &mut [u8], work: &mut [u32], end: &[u8]) {
@@ -103,7 +113,7 @@ fn answer(pass: Pass, card: &[u8], root: &[u8], out: &mut [u8], work: &mut [u32]
     let a = shortening::shorten(pass, card, root, out, work);
     if 2048 <= work.len() {
         let mut own = test_input::room();
-        if !is_same_alone(pass, card, root, a, out, &mut own) {
+        if !is_same_alone(pass, card, root, a, out, work.len(), &mut own) {
             say(b"broken promise: the call with work words of its own answers otherwise\n");
             return;
         }

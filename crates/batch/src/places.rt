@@ -1,5 +1,6 @@
 // A case with a lent list of places.
 use crate::least;
+use crate::may_differ;
 use crate::memory;
 use crate::say;
 use crate::say_output;
@@ -89,19 +90,22 @@ fn are_same(r: Listed, s: Listed) -> bool {
     answers::packed(a) == answers::packed(b) && r.entries == s.entries
 }
 
-// Whether it answers the same and leaves an out buffer and a list of its own the same.
+// Whether it answers the same, where it must, and leaves an out buffer and a list of its own the same.
 fn is_same(
     pass: Pass,
     card: &[u8],
     root: &[u8],
     r: Listed,
     out: &[u8],
+    words: usize,
     list: &[u32],
     own: &mut [u8],
     own_list: &mut [u32],
 ) -> bool {
     let s = alone(pass, card, root, own, own_list);
-    are_same(r, s) && wire::same(out, own) && memory::same_words(list, own_list)
+    let b = s.answer;
+    may_differ(b, words)
+        || are_same(r, s) && wire::same(out, own) && memory::same_words(list, own_list)
 }
 
 // The same with as much lent.
@@ -111,6 +115,7 @@ fn is_same_alone(
     root: &[u8],
     r: Listed,
     out: &[u8],
+    words: usize,
     list: &[u32],
 ) -> bool {
     let mut own = test_input::room();
@@ -123,6 +128,7 @@ fn is_same_alone(
         root,
         r,
         out,
+        words,
         list,
         &mut own[..n],
         &mut own_list[..m],
@@ -139,7 +145,7 @@ fn answer(
     end: &[u8],
 ) {
     let r = called(pass, card, root, out, work, list);
-    if 2048 <= work.len() && !is_same_alone(pass, card, root, r, out, list) {
+    if 2048 <= work.len() && !is_same_alone(pass, card, root, r, out, work.len(), list) {
         say(b"broken promise: the call with work words of its own answers otherwise\n");
         return;
     }

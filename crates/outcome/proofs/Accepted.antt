@@ -136,7 +136,7 @@ module _ (op : Operation) (card root out : Bytes) (work : List ℕ) (n : ℕ) wh
   unfolding admitted
   passed-admitted p = rw (p .enough, p .brief, p .rooted, p .sound)
 
-  passed : shorten op card root out work .answer ≡ Shortened n → Passed
+  pub passed : shorten op card root out work .answer ≡ Shortened n → Passed
   unfolding shorten admitted
   passed h =
       by-test (ltb (length work) (op .fewestWords)) (λ a. never ShortWork n (λ z. omega arith) (rw a at h))
@@ -147,7 +147,7 @@ module _ (op : Operation) (card root out : Bytes) (work : List ℕ) (n : ℕ) wh
     where
       go : ltb (length work) (op .fewestWords) ≡ false → ltb (op .mostCardBytes) (length card) ≡ false → goodRoot op root ≡ true →
           (v : Verdict) → reading (op .cardDepth) (op .outermost) card ≡ v → fair (reading (op .cardDepth) (op .outermost) card) ≡ true
-          → afterReading op card root out work v .answer ≡ Shortened n → Passed
+          → afterReading op card root out work (op .mostPairs (length work)) v .answer ≡ Shortened n → Passed
       go a b g (Refused x) e f h = never x n (faulty x (rw e at f)) h
       go a b g Sound e f h =
           by-option (fullTable op (op .mostPairs (length work)) (deep (tree card)) (tree card) (MSel (tree root) (nameOf (tree card))) 0)

@@ -205,7 +205,8 @@ module _ (op : Operation) (there : op .outermost ≡ mod′) (card root out : By
   unfolding shorten
   full-answer place h = go (admitted op card root (length work)) refl h
     where
-      go : (v : Verdict) → admitted op card root (length work) ≡ v → afterReading op card root out work v .answer ≡ FullTable place
+      go : (v : Verdict) → admitted op card root (length work) ≡ v → afterReading op card root out work (op .mostPairs (length work)) v .answer
+          ≡ FullTable place
           → FullAt op (op .mostPairs (length work)) card (tree card) prefix place
       go (Refused a) e h = absurd (admitted-not-full op card root (length work) place (e ∙ ap Refused h))
       go Sound e h =

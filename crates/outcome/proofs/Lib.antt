@@ -3,3 +3,5 @@ pub mod Places
 pub mod Pinned
 pub mod Full
 pub mod Few
+pub mod Earlier
+pub mod Lent

@@ -1,2 +1,3 @@
 pub mod FullTable
 pub mod Outcome
+pub mod Earlier

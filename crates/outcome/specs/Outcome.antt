@@ -60,15 +60,20 @@ module _ (op : Operation) (card root out : Bytes) (work : List ℕ) where
       cond (ltb (length out) (length output)) (lateRefusal NoSpace)
       (record { answer = Shortened (length output); out = output ++ drop (length output) out; work = zeros })
 
-  -- 8, and then 9
-  abbrev pub shortened : Outcome
-  shortened =
-      whether (fullTable op (op .mostPairs (length work)) (deep (tree card)) (tree card) (MSel (tree root) (nameOf (tree card))) 0)
+  -- 8, where a table may have so many pairs, and then 9
+  abbrev pub shortened : ℕ → Outcome
+  shortened most =
+      whether (fullTable op most (deep (tree card)) (tree card) (MSel (tree root) (nameOf (tree card))) 0)
       written (λ place. lateRefusal (FullTable place))
 
-  abbrev pub afterReading : Verdict → Outcome
-  afterReading (Refused a) = refusal a
-  afterReading Sound = shortened
+  abbrev pub afterReading : ℕ → Verdict → Outcome
+  afterReading most (Refused a) = refusal a
+  afterReading most Sound = shortened most
 
+  -- what is answered where a table may have so many pairs
+  abbrev pub shortenWithin : ℕ → Outcome
+  shortenWithin most = afterReading most (admitted op card root (length work))
+
+  -- and so many are as the operation says of the words lent (02, request 5)
   unfoldable pub shorten : Outcome
-  shorten = afterReading (admitted op card root (length work))
+  shorten = shortenWithin (op .mostPairs (length work))

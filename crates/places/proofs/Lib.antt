@@ -4,3 +4,4 @@ pub mod Meets
 pub mod Rises
 pub mod Weighed
 pub mod Words
+pub mod Earlier

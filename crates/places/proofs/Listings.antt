@@ -1,4 +1,4 @@
--- What an answer with a list says: of an acceptance demand 3 holds and the list is exact; a refusal leaves the list. Assumes nothing.
+-- What an answer with a list says: of an acceptance demand 3 holds and the list is exact; a refusal leaves what is lent. Assumes nothing.
 use mathlib.Core.Path.{_≡_, refl, ap, ap₂, sym, subst, _∙_}
 use mathlib.Core.Bool.{Bool, false, true≢false}
 use mathlib.Core.List.{List, [], _++_, append-nil}
@@ -9,7 +9,7 @@ use lib.ListN.{length, take, drop, length-append, length-drop}
 use lib.Seq.{take-append-seam}
 use lib.Dec.{eqb, ltb}
 use borrow.Author.Tests.{ltb-false, eqb-false}
-use Rattle.answers.specs.declared.Answer.the-variants.{Shortened}
+use Rattle.answers.specs.declared.Answer.the-variants.{Shortened, ShortList}
 use Rattle.answers.specs.Answers.{number}
 use Rattle.wire.specs.Numbers.{Bytes, AreBytes}
 use Rattle.records.specs.Record.{Record, leaf, node, encode, tree, children, nth, count}
@@ -26,6 +26,7 @@ use Rattle.size.specs.Bound.{times}
 use Rattle.size.proofs.Bound.{output-small}
 use Rattle.outcome.specs.Outcome.{Outcome, shorten}
 use Rattle.outcome.proofs.Accepted.{Accepted, accepted, accepted-times}
+use Rattle.outcome.proofs.Lent.{left}
 use Rattle.points.specs.Points.{NamesHold, outside}
 use Rattle.points.proofs.Demand.{demand-3}
 use Rattle.places.specs.Places.{Entry, entryWords, placesOf}
@@ -46,28 +47,37 @@ module _ (again : Bool) (card root out : Bytes) (work list : List ℕ) where
   Places = places (shortening again) card root out work list
 
   -- what is so of an acceptance
-  record Accepts (n : ℕ) : Type 0 where
+  pub record Accepts (n : ℕ) : Type 0 where
     pub answer : O .answer ≡ Shortened n
     pub out-is : L .out ≡ O .out
     pub entries-are : L .entries ≡ length Places
     pub list-is : L .list ≡ entryWords Places ++ drop (2 * length Places) list
+    pub room : ltb (length list) (2 * length Places) ≡ false
 
-  accepts : (n : ℕ) → L .answer ≡ Shortened n → Accepts n
+  pub accepts : (n : ℕ) → L .answer ≡ Shortened n → Accepts n
   unfolding shortenListing
   accepts n h =
       by-test (eqb (number (O .answer)) 0)
       (λ t. by-test (ltb (length list) (2 * length Places))
       (λ u. absurd (let z = ap number (rw (t, u) at h) in omega (arith, z)))
-      (λ u. record { answer = rw (t, u) at h; out-is = rw (t, u); entries-are = rw (t, u); list-is = rw (t, u) }))
+      (λ u. record { answer = rw (t, u) at h; out-is = rw (t, u); entries-are = rw (t, u); list-is = rw (t, u); room = u }))
       (λ t. absurd (let z = ap number (rw t at h) in let y = eqb-false (number (O .answer)) 0 t in y z))
 
-  -- a refusal leaves the list, and says no entries
-  pub refusal-leaves : eqb (number (L .answer)) 0 ≡ false → (L .list ≡ list) × (L .entries ≡ 0)
+  -- a refusal leaves the out buffer and the list, and says no entries
+  pub refusal-leaves : eqb (number (L .answer)) 0 ≡ false → (L .out ≡ out) × (L .list ≡ list) × (L .entries ≡ 0)
   unfolding shortenListing
   refusal-leaves h =
       by-test (eqb (number (O .answer)) 0)
-      (λ t. by-test (ltb (length list) (2 * length Places)) (λ u. rw (t, u) (refl, refl)) (λ u. absurd (true≢false (sym t ∙ (rw (t, u) at h)))))
-      (λ t. rw t (refl, refl))
+      (λ t. by-test (ltb (length list) (2 * length Places)) (λ u. rw (t, u) (refl, refl, refl)) (λ u. absurd (true≢false (sym t ∙ (rw (t, u) at h)))))
+      (λ t. rw t (left (shortening again) card root out work .1 t, refl, refl))
+
+  -- the work words are those without a list; so is the answer, but for 10
+  pub as-without : (L .work ≡ O .work) × ((L .answer ≡ ShortList → ⊥) → L .answer ≡ O .answer)
+  unfolding shortenListing
+  as-without =
+      by-test (eqb (number (O .answer)) 0)
+      (λ t. by-test (ltb (length list) (2 * length Places)) (λ u. rw (t, u) (refl, λ h. absurd (h refl))) (λ u. rw (t, u) (refl, λ h. refl)))
+      (λ t. rw t (refl, λ h. refl))
 
   -- the list stays as long as it was
   pub list-long : length (L .list) ≡ length list

@@ -37,7 +37,8 @@ module _ (op : Operation) (card root out : Bytes) (work list : List ℕ) where
       (listing (o .answer) (length places) (o .out) (o .work) (entryWords places ++ drop (2 * length places) list))
 
   -- a refusal by 1 to 9 comes first, and leaves the list
+  abbrev pub listed : Outcome → Listing
+  listed o = cond (eqb (number (o .answer)) 0) (accepted o) (listing (o .answer) 0 (o .out) (o .work) list)
+
   unfoldable pub shortenListing : Listing
-  shortenListing =
-      let o : Outcome = shorten op card root out work in
-      cond (eqb (number (o .answer)) 0) (accepted o) (listing (o .answer) 0 (o .out) (o .work) list)
+  shortenListing = listed (shorten op card root out work)

@@ -1,12 +1,14 @@
 -- A worked module, by computation: the order in which a visitor meets its types and expressions, and how often a replacer replaces each. Assumes nothing.
 use mathlib.Core.Path.{_≡_, refl}
-use mathlib.Core.List.{[], _∷_, _++_, map}
+use mathlib.Core.List.{List, [], _∷_, _++_, map}
+use mathlib.Core.Bool.{Bool}
 use mathlib.Core.Option.{some}
-use Prim.Native.Nat.{ℕ, suc, _+_}
+use Prim.Native.Nat.{ℕ, suc, _+_, _*_, _≤_, _<_}
+use native.Mathlib.Omega.{arith}
 use Rattle.wire.specs.Numbers.{Bytes}
 use Rattle.records.specs.Record.{Record, Records, leaf, node, nil, _▸_, _▸▸_, kind, text, nth, field, update, setNth, FoldLeft, mapAll, Map}
 use Rattle.rast.specs.Path.{Name, Path, Global, MSel, selected}
-use Rattle.rast.specs.Operation.{nested, upstream, straight}
+use Rattle.rast.specs.Operation.{nested, shortening, upstream, straight}
 use Rattle.rast.specs.Mod.{Mod·Fold}
 use Rattle.rast.specs.Fold.{Fold, Type·Fold, Expr·Fold}
 use Rattle.rast.specs.Replace.{Replace, Type·Replace, Formal·Replace}
@@ -157,3 +159,13 @@ pub fn-straight : (this : RASTBottomUpReplacer) (t : Record) → ReplaceFn strai
     (update 3 (Map (ReplaceType straight this)) (update 4 (Map (ReplaceExpr straight this)) t)))
 unfolding ReplaceFn ReplaceType ReplaceExpr
 fn-straight this t = refl
+
+-- 02, request 5: a table's limit for so many words, by either operation: 513 pairs want 2,052 words, 1,024 pairs 4,096, and more words bring no more
+pub limits : let words : List ℕ = 2048 ∷ 2051 ∷ 2052 ∷ 2800 ∷ 4095 ∷ 4096 ∷ 4100 ∷ 8192 ∷ [] in
+    (map (upstream .mostPairs) words ≡ 512 ∷ 512 ∷ 513 ∷ 700 ∷ 1023 ∷ 1024 ∷ 1024 ∷ 1024 ∷ []) × (map (straight .mostPairs) words ≡ map (upstream .mostPairs) words)
+limits = (refl, refl)
+
+-- of any words: four of them for each pair, no more than 1,024 pairs, and below that no word left that would do for one more
+pub limit-is : (again : Bool) (words : ℕ) → let most : ℕ = shortening again .mostPairs words in
+    (4 * most ≤ words) × (most ≤ 1024) × (most < 1024 → words < 4 * (most + 1))
+limit-is again words = (omega arith, omega arith, λ l. omega (arith, l))

@@ -2,7 +2,7 @@
 use mathlib.Core.List.{List}
 use mathlib.Core.Bool.{Bool, true, false, cond}
 use mathlib.Core.Option.{Option}
-use Prim.Native.Nat.{ℕ}
+use Prim.Native.Nat.{ℕ, _/_, min}
 use Rattle.wire.specs.Numbers.{sameBytes}
 use Rattle.records.specs.Kinds.{Place, mod′}
 use Rattle.rast.specs.Path.{Name, Path, MSel, «dafny_runtime», samePath}
@@ -34,7 +34,8 @@ entering op SelfPath name = cond (op .namesAgain) (MSel SelfPath name) SelfPath
 abbrev pub nested : Operation → Path → Name → Path
 nested op SelfPath name = entering op (MSel SelfPath name) name
 
--- the operations that there are, which differ in whether a nested module's name is added again and a Fn's types are walked again
+-- the operations that there are, which differ in whether a nested module's name is added again and a Fn's types are walked again. 02, request 5: a table may
+-- have a quarter as many pairs as there are words, rounded down, and at most 1,024
 abbrev pub shortening : Bool → Operation
 shortening again =
     record {
@@ -43,7 +44,7 @@ shortening again =
       mostRootBytes = 256;
       rootDepth = 8;
       cardDepth = 48;
-      mostPairs = λ words. 512;
+      mostPairs = λ words. min (words / 4) 1024;
       outermost = mod′;
       sameName = sameBytes;
       namesAgain = again;

@@ -21,7 +21,7 @@ fn refuse(a: Answer) -> bool {
 // The answer to a card; whether it was written.
 fn shorten(card: &[u8]) -> bool {
     let mut out = [0u8; 65536];
-    let mut work = [0u32; 2048];
+    let mut work = [0u32; 4096];
     let a = shortening::shorten(Pass::Upstream, card, &ROOT, &mut out, &mut work);
     match a {
         Answer::Shortened(n) => io::write_all(STDOUT_FILENO, wire::part(&out, 0, n)),

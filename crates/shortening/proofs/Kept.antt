@@ -27,12 +27,13 @@ use Rattle.operation.specs.Operations.{passOf, operationOf, plainOf, weightOf}
 use Rattle.operation.proofs.Lawful.{pass-plain}
 use Rattle.operation.proofs.Weights.{plain-weight}
 use Rattle.chains.specs.Chains.{room}
-use Rattle.admission.proofs.Lent.{lent, words-all}
+use Rattle.work.specs.Taken.{forTable}
+use Rattle.work.proofs.Lent.{most, words-all}
 use Rattle.measuring.specs.declared.Written.{Written}
 use Rattle.measuring.specs.declared.Written.the-variants.{Full, Length}
 use Rattle.measuring.specs.Measured.{output, wholeOutput}
 use Rattle.measuring.proofs.Sound.{FullAt, Bytes′, Result, few-full, whole-sound}
-use Rattle.shortening.specs.Shortened.{answerOf, outcome, Promise, Alone, Admitted}
+use Rattle.shortening.specs.Shortened.{answerOf, outcome, Promise, Answered, Alone, Admitted}
 
 -- an outcome that is the definition's keeps the promise
 promised : (pass : Pass) (card root out : Bytes) (work : List ℕ) (a : Answer) (out′ : Bytes) (work′ : List ℕ) → ((i : ℕ) → getD card i 0 < 256) →
@@ -46,16 +47,21 @@ promised pass card root out work a out′ work′ bc br e =
       bound = λ n h. accepted-times (repeats pass) card root out work n (are-bytes card bc) (ap (λ (o : Outcome). o .answer) (sym e) ∙ h);
     }
 
+-- how many pairs a table may have, with so many words lent
+abbrev limit : ℕ → ℕ
+limit words = min (words / 4) 1024
+
 -- what is made of a card that is admitted, by words that have room for as many pairs as there may be, or for all that the card can have
 module _ (op : Shortening) (weightless : weightOf op ≡ 0) (card root out : Bytes) (work : List ℕ)
     (bc : (i : ℕ) → getD card i 0 < 256) (br : (i : ℕ) → getD root i 0 < 256)
     (is-sound : admitted (operationOf op) card root (length work) ≡ Sound) (words : List ℕ)
-    (enough-words : FullAt op card root (length work) is-sound bc br (room words) ≡ FullAt op card root (length work) is-sound bc br 512) where
+    (enough-words : FullAt op card root (length work) is-sound bc br (room words)
+    ≡ FullAt op card root (length work) is-sound bc br (limit (length work))) where
   abbrev Whole : Bytes
   Whole = Bytes′ op card root (length work) is-sound bc br
 
   abbrev Place : Option ℕ
-  Place = FullAt op card root (length work) is-sound bc br 512
+  Place = FullAt op card root (length work) is-sound bc br (limit (length work))
 
   room-same : length Whole ≤ length out → length (Whole ++ drop (length Whole) out) ≡ length out
   room-same l = let a = length-append Whole (drop (length Whole) out) in let b = length-drop (length Whole) out in omega arith
@@ -90,12 +96,9 @@ module _ (pass : Pass) (card root out : Bytes) (work : List ℕ) (bc : (i : ℕ)
   unfolding shorten
   refused a h = promised pass card root out work a out work bc br (rw (admitted-alike (repeats pass) card root (length work), ← e, h))
 
-  module _ (h : v ≡ Sound) where
-    most : room (take 2048 work) ≡ 512
-    most = ap (λ (n : ℕ). min (n / 4) 65535) (sym (lent card root work v e h))
-
+  module _ (h : v ≡ Sound) (used : ℕ) (u : used ≡ forTable (length work)) where
     module _ (op : Shortening) (p : op ≡ plainOf pass) (w : Written) (out′ : Bytes) (words : List ℕ)
-        (o : output w out′ words ≡ wholeOutput op card root (take 2048 work) out) where
+        (o : output w out′ words ≡ wholeOutput op card root (take used work) out) where
       same-pass : passOf op ≡ pass
       same-pass = ap passOf p ∙ pass-plain pass
 
@@ -105,24 +108,22 @@ module _ (pass : Pass) (card root out : Bytes) (work : List ℕ) (bc : (i : ℕ)
       is-sound : admitted (operationOf op) card root (length work) ≡ Sound
       is-sound = admitted-alike (repeats (passOf op)) card root (length work) ∙ sym e ∙ h
 
-      words-long : length words ≡ length (take 2048 work)
-      words-long = rw (← o) at (whole-sound op card root (length work) is-sound bc br weightless (take 2048 work) out) .words-long
+      words-long : length words ≡ length (take used work)
+      words-long = rw (← o) at (whole-sound op card root (length work) is-sound bc br weightless (take used work) out) .words-long
 
-      pub kept : (work′ : List ℕ) → work′ ≡ replicate (length (words ++ drop 2048 work)) 0 → (a : Answer) → a ≡ answerOf w (length out′)
+      pub kept : (work′ : List ℕ) → work′ ≡ replicate (length (words ++ drop used work)) 0 → (a : Answer) → a ≡ answerOf w (length out′)
           → Promise pass card root out work a out′ work′
       kept work′ z a f =
           promised pass card root out work a out′ work′ bc br
-          (rw (f, z ∙ ap (λ (n : ℕ). replicate n 0) (words-all card root work v e h words words-long))
-          (made op weightless card root out work bc br is-sound (take 2048 work) (ap (FullAt op card root (length work) is-sound bc br) most) w out′ words o
+          (rw (f, z ∙ ap (λ (n : ℕ). replicate n 0) (words-all work used u words words-long))
+          (made op weightless card root out work bc br is-sound (take used work)
+          (ap (FullAt op card root (length work) is-sound bc br) (most work used u)) w out′ words o
           ∙ ap (λ (q : Pass). shorten (asked q) card root out work) same-pass))
 
--- by words of its own
-abbrev own-words : List ℕ
-own-words = replicate 2048 0
-
-alone : (pass : Pass) (card root out : Bytes) (a : Answer) (out′ : Bytes) (work′ : List ℕ) → Promise pass card root out own-words a out′ work′
-    → Alone pass card root out a out′
-alone pass card root out a out′ work′ p =
+-- what is promised of all that is lent is promised of the answer and the out bytes
+pub answered : {pass : Pass} {card root out : Bytes} {work : List ℕ} {a : Answer} {out′ : Bytes} {work′ : List ℕ} → Promise pass card root out work a out′ work′
+    → Answered pass card root (shorten (asked pass) card root out work) a out′
+answered p =
     record {
       answer-is = ap (λ (o : Outcome). o .answer) (p .fixed);
       out-is = ap (λ (o : Outcome). o .out) (p .fixed);
@@ -130,9 +131,13 @@ alone pass card root out a out′ work′ p =
       bound = p .bound;
     }
 
+-- by words of its own
+abbrev own-words : List ℕ
+own-words = replicate 2048 0
+
 module _ (pass : Pass) (card root out : Bytes) (bc : (i : ℕ) → getD card i 0 < 256) (br : (i : ℕ) → getD root i 0 < 256) where
   pub alone-refused : (v : Verdict) → v ≡ admitted upstream card root 2048 → (a : Answer) → v ≡ Refused a → Alone pass card root out a out
-  alone-refused v e a h = alone pass card root out a out own-words (refused pass card root out own-words bc br v e a h)
+  alone-refused v e a h = answered (refused pass card root out own-words bc br v e a h)
 
   module _ (is-admitted : Admitted card root) (op : Shortening) (p : op ≡ plainOf pass) where
     pub admits : admitted (operationOf op) card root 2048 ≡ Sound
@@ -152,7 +157,7 @@ module _ (pass : Pass) (card root out : Bytes) (bc : (i : ℕ) → getD card i 0
     pub alone-kept : (words : List ℕ) → Enough words → (w : Written) (out′ : Bytes) (words′ : List ℕ)
         → output w out′ words′ ≡ wholeOutput op card root words out → (a : Answer) → a ≡ answerOf w (length out′) → Alone pass card root out a out′
     alone-kept words n w out′ words′ o a f =
-        alone pass card root out a out′ own-words
+        answered
         (promised pass card root out own-words a out′ own-words bc br
         (rw f (made op (ap weightOf p ∙ plain-weight pass) card root out own-words bc br admits words n w out′ words′ o
         ∙ ap (λ (q : Pass). shorten (asked q) card root out own-words) (ap passOf p ∙ pass-plain pass))))

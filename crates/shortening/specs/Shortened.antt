@@ -35,16 +35,20 @@ pub record Promise (pass : Pass) (card root out : Bytes) (work : List ℕ) (answ
   -- 02, request 2: where it accepts, the output is at most 4 times as long as the card, and 42 times by the text
   pub bound : (n : ℕ) → answer ≡ Shortened n → n ≤ times (asked pass) * length card
 
+-- the same of the answer and the out bytes alone, where an outcome is due
+pub record Answered (pass : Pass) (card root : Bytes) (due : Outcome) (answer : Answer) (out′ : Bytes) : Type 0 where
+  pub answer-is : answer ≡ due .answer
+  pub out-is : out′ ≡ due .out
+  pub names : (n : ℕ) → answer ≡ Shortened n → NamesHold (asked pass) card root (take n out′)
+  pub bound : (n : ℕ) → answer ≡ Shortened n → n ≤ times (asked pass) * length card
+
 -- as if 2,048 work words that are zero were lent
 abbrev pub called : Pass → (card root out : Bytes) → Outcome
 called pass card root out = shorten (asked pass) card root out (replicate 2048 0)
 
--- the same of a call with work words of its own, which may be fewer
-pub record Alone (pass : Pass) (card root out : Bytes) (answer : Answer) (out′ : Bytes) : Type 0 where
-  pub answer-is : answer ≡ called pass card root out .answer
-  pub out-is : out′ ≡ called pass card root out .out
-  pub names : (n : ℕ) → answer ≡ Shortened n → NamesHold (asked pass) card root (take n out′)
-  pub bound : (n : ℕ) → answer ≡ Shortened n → n ≤ times (asked pass) * length card
+-- what a call with work words of its own promises; they may be fewer
+abbrev pub Alone : Pass → (card root out : Bytes) → Answer → Bytes → Type 0
+Alone pass card root out answer out′ = Answered pass card root (called pass card root out) answer out′
 
 -- what such a call goes on with: a card and a root that are admitted, which is the same for every pass
 abbrev pub Admitted : (card root : Bytes) → Type 0

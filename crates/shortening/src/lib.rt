@@ -23,7 +23,7 @@ fn answer_of(w: Written, lent: usize) -> Answer
     }
 }
 
-// A table has the first 2048 of the work words: 512 pairs.
+// A quarter as many pairs as there are work words may stand in a table, and at most 1024.
 pub fn shorten(pass: Pass, card: &[u8], root: &[u8], out: &mut [u8], work: &mut [u32]) -> Answer
     ensures { λ r. ⌜ Promise pass (now (card .entry)) (now (root .entry)) (now (out .entry)) (now (work .entry)) r (now (out .exit)) (now (work .exit)) ⌝ }
 {
@@ -34,7 +34,8 @@ pub fn shorten(pass: Pass, card: &[u8], root: &[u8], out: &mut [u8], work: &mut 
             return a;
         }
     }
-    let w = measuring::write(operation::plain(pass), card, root, out, &mut work[..2048]);
+    let used = work::for_table(work.len());
+    let w = measuring::write(operation::plain(pass), card, root, out, &mut work[..used]);
     work::clear(work);
     answer_of(w, out.len())
 }

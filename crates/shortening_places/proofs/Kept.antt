@@ -20,13 +20,14 @@ use Rattle.places.specs.Listing.{Listing, listing, shortenListing}
 use Rattle.places.proofs.Listings.{names-hold, length-most, list-exact}
 use Rattle.operation.specs.declared.Pass.{Pass}
 use Rattle.operation.specs.Passes.{repeats, asked}
-use Rattle.admission.proofs.Lent.{lent, words-all}
+use Rattle.work.specs.Taken.{forTable}
+use Rattle.work.proofs.Lent.{most, words-all}
 use Rattle.chains.specs.Chains.{room}
 use Rattle.placing.specs.declared.Placed.{Placed}
 use Rattle.placing.specs.Placing.{placing, placed}
 use Rattle.placing.proofs.Sound.{Whole, Places, FullAt, Result, placed-sound}
 use Rattle.shortening_places.specs.declared.Listed.{Listed}
-use Rattle.shortening_places.specs.Placed.{listedOf, Promise, Alone}
+use Rattle.shortening_places.specs.Placed.{listedOf, Promise, Answered, Alone}
 
 -- what is answered is the definition's, so it keeps the promise
 promised : (pass : Pass) (card root out : Bytes) (work list : List ℕ) (r : Listed) (out′ : Bytes) (work′ list′ : List ℕ) → ((i : ℕ) → getD card i 0 < 256)
@@ -42,14 +43,15 @@ promised pass card root out work list r out′ work′ list′ bc br e =
           (list-exact (repeats pass) card root out work list (are-bytes card bc) (are-bytes root br) n (ap (λ (x : Listing). x .answer) (sym e) ∙ h));
     }
 
--- what is written of a card that is admitted, by words that have room for 512 pairs
+-- what is written of a card that is admitted, by words that have room for as many pairs as there may be
 module _ (pass : Pass) (card root out : Bytes) (work list : List ℕ) (bc : (i : ℕ) → getD card i 0 < 256) (br : (i : ℕ) → getD root i 0 < 256)
-    (is-sound : admitted (asked pass) card root (length work) ≡ Sound) (words : List ℕ) (enough : room words ≡ 512)
+    (is-sound : admitted (asked pass) card root (length work) ≡ Sound) (words : List ℕ)
+    (enough : room words ≡ min (length work / 4) 1024)
     (p : Placed) (out′ : Bytes) (words′ list′ : List ℕ) (o : placing p out′ words′ list′ ≡ placed pass card root words list out) where
   result : Result pass card root (length work) is-sound bc br words list out (placing p out′ words′ list′)
   result = rw o (placed-sound pass card root (length work) is-sound bc br words list out)
 
-  is-listing : (x : Option ℕ) → FullAt pass card root (length work) is-sound bc br 512 ≡ x
+  is-listing : (x : Option ℕ) → FullAt pass card root (length work) is-sound bc br (min (length work / 4) 1024) ≡ x
       → listing (listedOf p .answer) (listedOf p .entries) out′ (replicate (length work) 0) list′ ≡ shortenListing (asked pass) card root out work list
   unfolding shortenListing shorten
   is-listing none q =
@@ -59,7 +61,7 @@ module _ (pass : Pass) (card root out : Bytes) (work list : List ℕ) (bc : (i :
   is-listing (some place) q = rw (result .answer-is, result .out-is, result .list-is, enough, is-sound, q)
 
   pub made : listing (listedOf p .answer) (listedOf p .entries) out′ (replicate (length work) 0) list′ ≡ shortenListing (asked pass) card root out work list
-  made = is-listing (FullAt pass card root (length work) is-sound bc br 512) refl
+  made = is-listing (FullAt pass card root (length work) is-sound bc br (min (length work / 4) 1024)) refl
 
 module _ (pass : Pass) (card root out : Bytes) (work list : List ℕ) (bc : (i : ℕ) → getD card i 0 < 256) (br : (i : ℕ) → getD root i 0 < 256)
     (v : Verdict) (e : v ≡ admitted upstream card root (length work)) where
@@ -70,32 +72,26 @@ module _ (pass : Pass) (card root out : Bytes) (work list : List ℕ) (bc : (i :
       promised pass card root out work list (record { answer = a; entries = 0 }) out work list bc br
       (rw (r, ne-eqb (number a) 0 (refused-number (asked pass) card root (length work) a r)))
 
-  module _ (h : v ≡ Sound) where
+  module _ (h : v ≡ Sound) (used : ℕ) (u : used ≡ forTable (length work)) where
     is-sound : admitted (asked pass) card root (length work) ≡ Sound
     is-sound = admitted-alike (repeats pass) card root (length work) ∙ sym e ∙ h
 
-    most : room (take 2048 work) ≡ 512
-    most = ap (λ (n : ℕ). min (n / 4) 65535) (sym (lent card root work v e h))
+    module _ (p : Placed) (out′ : Bytes) (words list′ : List ℕ) (o : placing p out′ words list′ ≡ placed pass card root (take used work) list out) where
+      words-long : length words ≡ length (take used work)
+      words-long = result pass card root out work list bc br is-sound (take used work) (most work used u) p out′ words list′ o .words-long
 
-    module _ (p : Placed) (out′ : Bytes) (words list′ : List ℕ) (o : placing p out′ words list′ ≡ placed pass card root (take 2048 work) list out) where
-      words-long : length words ≡ length (take 2048 work)
-      words-long = result pass card root out work list bc br is-sound (take 2048 work) most p out′ words list′ o .words-long
-
-      pub kept : (work′ : List ℕ) → work′ ≡ replicate (length (words ++ drop 2048 work)) 0 → (r : Listed) → r ≡ listedOf p
+      pub kept : (work′ : List ℕ) → work′ ≡ replicate (length (words ++ drop used work)) 0 → (r : Listed) → r ≡ listedOf p
           → Promise pass card root out work list r out′ work′ list′
       kept work′ z r f =
           promised pass card root out work list r out′ work′ list′ bc br
-          (rw (f, z ∙ ap (λ (n : ℕ). replicate n 0) (words-all card root work v e h words words-long))
-          (made pass card root out work list bc br is-sound (take 2048 work) most p out′ words list′ o))
+          (rw (f, z ∙ ap (λ (n : ℕ). replicate n 0) (words-all work used u words words-long))
+          (made pass card root out work list bc br is-sound (take used work) (most work used u) p out′ words list′ o))
 
--- by words of its own
-abbrev own-words : List ℕ
-own-words = replicate 2048 0
-
-alone : (pass : Pass) (card root out : Bytes) (list : List ℕ) (r : Listed) (out′ : Bytes) (work′ list′ : List ℕ)
-    → Promise pass card root out own-words list r out′ work′ list′
-    → Alone pass card root out list r out′ list′
-alone pass card root out list r out′ work′ list′ p =
+-- what is promised of all that is lent is promised of all but the work words
+pub answered : {pass : Pass} {card root out : Bytes} {work list : List ℕ} {r : Listed} {out′ : Bytes} {work′ list′ : List ℕ}
+    → Promise pass card root out work list r out′ work′ list′
+    → Answered pass card root (shortenListing (asked pass) card root out work list) r out′ list′
+answered p =
     record {
       answer-is = ap (λ (x : Listing). x .answer) (p .fixed);
       entries-are = ap (λ (x : Listing). x .entries) (p .fixed);
@@ -106,16 +102,20 @@ alone pass card root out list r out′ work′ list′ p =
       exact = p .exact;
     }
 
+-- by words of its own
+abbrev own-words : List ℕ
+own-words = replicate 2048 0
+
 module _ (pass : Pass) (card root out : Bytes) (list : List ℕ) (bc : (i : ℕ) → getD card i 0 < 256) (br : (i : ℕ) → getD root i 0 < 256)
     (v : Verdict) (e : v ≡ admitted upstream card root 2048) where
   pub alone-refused : (a : Answer) → v ≡ Refused a → Alone pass card root out list (record { answer = a; entries = 0 }) out list
   alone-refused a h =
-      alone pass card root out list (record { answer = a; entries = 0 }) out own-words list (refused pass card root out own-words list bc br v e a h)
+      answered (refused pass card root out own-words list bc br v e a h)
 
   pub alone-kept : v ≡ Sound → (p : Placed) (out′ : Bytes) (words list′ : List ℕ) → placing p out′ words list′ ≡ placed pass card root own-words list out
       → (r : Listed) → r ≡ listedOf p → Alone pass card root out list r out′ list′
   alone-kept h p out′ words list′ o r f =
-      alone pass card root out list r out′ own-words list′
+      answered
       (promised pass card root out own-words list r out′ own-words list′ bc br
       (rw f (made pass card root out own-words list bc br (admitted-alike (repeats pass) card root 2048 ∙ sym e ∙ h) own-words refl p out′ words list′ o)))
 

@@ -37,16 +37,20 @@ pub record Promise (pass : Pass) (card root out : Bytes) (work list : List ℕ) 
   -- and the list is exact: the shortened points of demand 3 and the uses put ahead, each at its offset
   pub exact : (n : ℕ) → r .answer ≡ Shortened n → ListExact card (take n out′) (r .entries) list′
 
+-- the same of all but the work words, where a listing is due
+pub record Answered (pass : Pass) (card root : Bytes) (due : Listing) (r : Listed) (out′ : Bytes) (list′ : List ℕ) : Type 0 where
+  pub answer-is : r .answer ≡ due .answer
+  pub entries-are : r .entries ≡ due .entries
+  pub out-is : out′ ≡ due .out
+  pub list-is : list′ ≡ due .list
+  pub names : (n : ℕ) → r .answer ≡ Shortened n → NamesHold (asked pass) card root (take n out′)
+  pub bound : (n : ℕ) → r .answer ≡ Shortened n → n ≤ times (asked pass) * length card
+  pub exact : (n : ℕ) → r .answer ≡ Shortened n → ListExact card (take n out′) (r .entries) list′
+
 -- as if 2,048 work words that are zero were lent
 abbrev pub called : Pass → (card root out : Bytes) → List ℕ → Listing
 called pass card root out list = shortenListing (asked pass) card root out (replicate 2048 0) list
 
--- the same of a call with work words of its own
-pub record Alone (pass : Pass) (card root out : Bytes) (list : List ℕ) (r : Listed) (out′ : Bytes) (list′ : List ℕ) : Type 0 where
-  pub answer-is : r .answer ≡ called pass card root out list .answer
-  pub entries-are : r .entries ≡ called pass card root out list .entries
-  pub out-is : out′ ≡ called pass card root out list .out
-  pub list-is : list′ ≡ called pass card root out list .list
-  pub names : (n : ℕ) → r .answer ≡ Shortened n → NamesHold (asked pass) card root (take n out′)
-  pub bound : (n : ℕ) → r .answer ≡ Shortened n → n ≤ times (asked pass) * length card
-  pub exact : (n : ℕ) → r .answer ≡ Shortened n → ListExact card (take n out′) (r .entries) list′
+-- what a call with work words of its own promises
+abbrev pub Alone : Pass → (card root out : Bytes) → List ℕ → Listed → Bytes → List ℕ → Type 0
+Alone pass card root out list r out′ list′ = Answered pass card root (called pass card root out list) r out′ list′

@@ -35,7 +35,7 @@ fn listed_of(p: Placed) -> Listed
     }
 }
 
-// A table has the first 2048 of the work words: 512 pairs.
+// A quarter as many pairs as there are work words may stand in a table, and at most 1024.
 pub fn shorten_places(
     pass: Pass,
     card: &[u8],
@@ -57,7 +57,8 @@ pub fn shorten_places(
             };
         }
     }
-    let p = placing::write_places(pass, card, root, out, &mut work[..2048], list);
+    let used = work::for_table(work.len());
+    let p = placing::write_places(pass, card, root, out, &mut work[..used], list);
     work::clear(work);
     listed_of(p)
 }

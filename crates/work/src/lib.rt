@@ -2,6 +2,17 @@
 ghost use mathlib.Core.Path.{_≡_};
 ghost use lib.ListN.{length, replicate};
 ghost use Rattle.work.specs.Copies.{over};
+ghost use Rattle.work.specs.Taken.{forTable};
+
+// How many of so many words a table may take.
+pub fn for_table(lent: usize) -> usize
+    ensures { λ r. ⌜ r ≡ forTable lent ⌝ }
+{
+    if lent < 4096 {
+        return lent;
+    }
+    4096
+}
 
 // All of them zero.
 pub fn clear(work: &mut [u32])

@@ -1,5 +1,5 @@
-//! Writes what the programs batch and test_apply are run on, and what they should write: the files stdin and
-//! stdout of a folder.
+//! Writes what the programs batch, test_apply and shorten are run on, and what they should write: the files stdin
+//! and stdout of a folder.
 use std::env;
 use std::fs;
 use std::ops::RangeInclusive;
@@ -12,7 +12,8 @@ const USAGE: &str = "\
 gate batch VECTORS FOLDER  every vector of the folder VECTORS with its latest answer, and cases
                            whose answers are stated or given alike by the two in Rust; files of
                            requests that are not answered yet are left out
-gate apply FOLDER          the four cases of TestApply";
+gate apply FOLDER          the four cases of TestApply
+gate shorten FOLDER        a card with as many names as its words have room for";
 
 const CRATE: [u8; 6] = [2, 0, 0, 0, 0x11, 0];
 
@@ -79,13 +80,16 @@ impl Lines {
     }
 
     fn write(&self, folder: &str) -> Result<(), String> {
-        let write = |name: &str, text: &str| {
-            fs::write(format!("{folder}/{name}"), text)
-                .map_err(|e| format!("{folder}/{name} can't be written: {e}"))
-        };
-        write("stdin", &self.cases)?;
-        write("stdout", &self.answers)
+        write(folder, self.cases.as_bytes(), self.answers.as_bytes())
     }
+}
+
+fn write(folder: &str, stdin: &[u8], stdout: &[u8]) -> Result<(), String> {
+    for (name, bytes) in [("stdin", stdin), ("stdout", stdout)] {
+        fs::write(format!("{folder}/{name}"), bytes)
+            .map_err(|e| format!("{folder}/{name} can't be written: {e}"))?;
+    }
+    Ok(())
 }
 
 /// A case whose answer is stated. None is accepted with a list.
@@ -236,10 +240,10 @@ fn put_straight(lines: &mut Lines) -> Result<(), String> {
     Ok(())
 }
 
-/// Paths without a name, by both operations.
-fn put_nameless(lines: &mut Lines) {
+/// Cases whose answers are stated, by both operations, which answer them alike.
+fn put_alike(lines: &mut Lines, cases: fn() -> Vec<Stated>) {
     for operation in Operation::BOTH {
-        for case in stated::nameless() {
+        for case in cases() {
             lines.put_case(&of_stated(Some(operation), case));
         }
     }
@@ -266,8 +270,10 @@ fn batch(vectors: &str, folder: &str) -> Result<(), String> {
     put_lists(&mut lines);
     put_vectors(&mut lines, 2..=2);
     put_straight(&mut lines)?;
-    put_vectors(&mut lines, 3..=LANDED);
-    put_nameless(&mut lines);
+    put_vectors(&mut lines, 3..=4);
+    put_alike(&mut lines, stated::nameless);
+    put_vectors(&mut lines, 5..=LANDED);
+    put_alike(&mut lines, stated::full_tables);
     lines.write(folder)
 }
 
@@ -306,12 +312,18 @@ fn apply(folder: &str) -> Result<(), String> {
     lines.write(folder)
 }
 
+fn shorten(folder: &str) -> Result<(), String> {
+    let (card, output) = stated::most_names();
+    write(folder, &card, &output)
+}
+
 fn main() -> ExitCode {
     let words: Vec<String> = env::args().skip(1).collect();
     let words: Vec<&str> = words.iter().map(String::as_str).collect();
     let done = match words[..] {
         ["batch", vectors, folder] => batch(vectors, folder),
         ["apply", folder] => apply(folder),
+        ["shorten", folder] => shorten(folder),
         _ => Err(USAGE.to_string()),
     };
     match done {

@@ -1,7 +1,7 @@
 //! How many bytes of stack the console's calls take: the stack is painted, the call made, and the paint looked at.
 use std::hint::black_box;
 use std::thread;
-use yardstick::{cards, classes, console, Operation};
+use yardstick::{cards, classes, console, Operation, WORDS};
 
 /// How much is painted, and the paint.
 const PAINTED: usize = 256 << 10;
@@ -21,7 +21,7 @@ fn deep(times: usize) -> Vec<u8> {
 
 /// The bytes below this frame that a call changed. Nothing is borrowed there: the area is free stack.
 #[inline(never)]
-fn used(operation: Operation, card: &[u8], out: &mut [u8]) -> usize {
+fn used(operation: Operation, card: &[u8], out: &mut [u8], words: Option<&mut [u32]>) -> usize {
     let here = 0u8;
     let top = (&here as *const u8 as usize) - 4096;
     let area = top - PAINTED;
@@ -30,7 +30,7 @@ fn used(operation: Operation, card: &[u8], out: &mut [u8]) -> usize {
             std::ptr::write_volatile((area + i) as *mut u8, PAINT);
         }
     }
-    let answer = console::shorten(operation, black_box(card), &[2, 0, 0, 0, 0x11, 0], out);
+    let answer = console::shorten(operation, black_box(card), &[2, 0, 0, 0, 0x11, 0], out, words);
     black_box(answer).expect("a card that is accepted");
     let kept = (0..PAINTED)
         .take_while(|i| unsafe { std::ptr::read_volatile((area + i) as *const u8) } == PAINT)
@@ -39,19 +39,23 @@ fn used(operation: Operation, card: &[u8], out: &mut [u8]) -> usize {
 }
 
 fn main() {
-    let cards: Vec<(&str, Vec<u8>)> = vec![
-        ("13 bytes", classes::least()),
-        ("32 KB", classes::typical(32 << 10)),
-        ("16 modules, one in the other", nested(15)),
-        ("types in types, 48 deep", deep(36)),
-        ("512 pairs", classes::pairs(512)),
+    // With so many work words lent; where there are none, the call has its own on the stack.
+    let cards: Vec<(&str, Vec<u8>, Option<usize>)> = vec![
+        ("13 bytes", classes::least(), None),
+        ("32 KB", classes::typical(32 << 10), None),
+        ("16 modules, one in the other", nested(15), None),
+        ("types in types, 48 deep", deep(36), None),
+        ("512 pairs", classes::pairs(512), None),
+        ("512 pairs, 2,048 words lent", classes::pairs(512), Some(WORDS)),
+        ("1,024 pairs, 4,096 words lent", classes::close_pairs(1024), Some(4096)),
     ];
-    for (what, card) in cards {
+    for (what, card, words) in cards {
         let [old, straight] = Operation::BOTH.map(|operation| {
             let card = card.clone();
             let run = move || {
                 let mut out = vec![0; 1 << 20];
-                used(operation, &card, &mut out)
+                let mut words = words.map(|count| vec![0; count]);
+                used(operation, &card, &mut out, words.as_deref_mut())
             };
             thread::Builder::new().stack_size(2 << 20).spawn(run).unwrap().join().unwrap()
         });

@@ -29,7 +29,7 @@ mod read;
 mod replace;
 mod write;
 
-use crate::{Answer, Listed, Mark, Operation, Refusal, MOST_CARD, MOST_PAIRS, MOST_ROOT, WORDS};
+use crate::{most_pairs, Answer, Listed, Mark, Operation, Refusal, MOST_CARD, MOST_ROOT, WORDS};
 use std::rc::Rc;
 
 pub use collect::{is_runtime, Mapping};
@@ -285,16 +285,21 @@ impl<'a> Module<'a> {
         }
     }
 
-    /// As the text's apply does, under the outermost module's prefix.
-    fn apply(&mut self, operation: Operation, root: Rc<Path<'a>>) -> Result<(), Refusal> {
+    /// As the text's apply does, under the outermost module's prefix. No module may have more than `most` pairs.
+    fn apply(&mut self, operation: Operation, root: Rc<Path<'a>>, most: usize) -> Result<(), Refusal> {
         let prefix = select(&root, self.name());
-        self.apply_prefix(operation, &prefix)
+        self.apply_prefix(operation, &prefix, most)
     }
 
-    fn apply_prefix(&mut self, operation: Operation, prefix: &Rc<Path<'a>>) -> Result<(), Refusal> {
+    fn apply_prefix(
+        &mut self,
+        operation: Operation,
+        prefix: &Rc<Path<'a>>,
+        most: usize,
+    ) -> Result<(), Refusal> {
         let Module::Mod(module) = self else { return Ok(()) };
         let mapping = Mapping::of(module, prefix);
-        if mapping.pairs.len() > MOST_PAIRS {
+        if mapping.pairs.len() > most {
             return Err((8, module.place as u32));
         }
         let replacement = mapping.replacement(operation);
@@ -309,7 +314,7 @@ impl<'a> Module<'a> {
                         Operation::Upstream => select(&once, name),
                         Operation::Straight => once,
                     };
-                    nested.apply_prefix(operation, &prefix)?;
+                    nested.apply_prefix(operation, &prefix, most)?;
                 }
                 other => replacement.declaration(other),
             }
@@ -352,7 +357,7 @@ pub fn outermost<'a>(card: &'a [u8], root: &'a [u8], words: usize) -> Result<Map
         Module::Mod(module) => Mapping::of(module, &prefix),
         Module::Extern(_) => Mapping::new(&prefix),
     };
-    match mapping.pairs.len() > MOST_PAIRS {
+    match mapping.pairs.len() > most_pairs(words) {
         true => Err((8, 0)),
         false => Ok(mapping),
     }
@@ -366,7 +371,7 @@ fn shortened<'a>(
     words: usize,
 ) -> Result<Module<'a>, Refusal> {
     let (mut module, root) = read(card, root, words)?;
-    module.apply(operation, root)?;
+    module.apply(operation, root, most_pairs(words))?;
     Ok(module)
 }
 

@@ -6,7 +6,7 @@ mod names;
 mod write;
 
 use crate::rows::{Place, Shape, What, DECLARATIONS, KEPT, MODULE, PATH, ROWS, TEXT};
-use crate::{Answer, Listed, Operation, Refusal, MOST_CARD, MOST_PAIRS, MOST_ROOT, WORDS};
+use crate::{most_pairs, Answer, Listed, Operation, Refusal, MOST_CARD, MOST_ROOT, WORDS};
 use names::{Names, NONE};
 
 /// Something that may change.
@@ -324,7 +324,7 @@ fn run(
     let mut walk = Walk {
         operation,
         bytes: root,
-        names: Names::new(root),
+        names: Names::new(root, most_pairs(words)),
         points: Vec::new(),
         module: NONE,
         refusal: (0, 0),
@@ -337,7 +337,7 @@ fn run(
     if read.and_then(|end| walk.finish(end, card.len())).is_none() {
         return Err(walk.refusal);
     }
-    if let Some(full) = walk.names.modules.iter().find(|module| module.pairs > MOST_PAIRS) {
+    if let Some(full) = walk.names.full() {
         return Err((8, full.place as u32));
     }
     let mut length = card.len();

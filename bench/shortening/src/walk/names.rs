@@ -1,5 +1,5 @@
 //! The names of all modules of a card, with their bases.
-use crate::{Operation, MOST_PAIRS};
+use crate::Operation;
 use std::collections::hash_map::{Entry, HashMap};
 use std::hash::{BuildHasherDefault, Hasher};
 use std::iter;
@@ -18,7 +18,9 @@ type Map<K> = HashMap<K, u32, BuildHasherDefault<Mix>>;
 
 #[derive(Default)]
 pub struct Names<'a> {
-    pub modules: Vec<Module>,
+    modules: Vec<Module>,
+    /// How many pairs a module may have.
+    most: usize,
     /// The root and the prefixes of modules.
     paths: Vec<u8>,
     names: Vec<Name<'a>>,
@@ -32,8 +34,8 @@ pub struct Names<'a> {
 
 pub struct Module {
     pub place: usize,
-    /// How many pairs it has, 513 at most.
-    pub pairs: usize,
+    /// How many pairs it has, at most one too many.
+    pairs: usize,
     prefix: Range<usize>,
     /// Its first and last name.
     names: (u32, u32),
@@ -52,8 +54,13 @@ struct Name<'a> {
 }
 
 impl<'a> Names<'a> {
-    pub fn new(root: &[u8]) -> Self {
-        Names { paths: root.to_vec(), ..Names::default() }
+    pub fn new(root: &[u8], most: usize) -> Self {
+        Names { paths: root.to_vec(), most, ..Names::default() }
+    }
+
+    /// The first module with too many pairs.
+    pub fn full(&self) -> Option<&Module> {
+        self.modules.iter().find(|module| module.pairs > self.most)
     }
 
     /// Starts a module: its number. Upstream a nested one's prefix gets the name twice.
@@ -93,7 +100,7 @@ impl<'a> Names<'a> {
     /// The number of the pair, none where the table is full.
     pub fn add(&mut self, module: u32, name: &'a [u8], base: Base<'a>) -> u32 {
         let of = &mut self.modules[module as usize];
-        if of.pairs > MOST_PAIRS {
+        if of.pairs > self.most {
             return NONE;
         }
         let (pair, number) = (self.pairs.len() as u32, self.names.len() as u32);

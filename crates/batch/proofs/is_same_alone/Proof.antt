@@ -18,6 +18,9 @@ slice-aggregate-alone c = sym (length-take-le _ _ (omega arith))
 alone-requires : tie.Need-alone-requires
 alone-requires c κs = search needs
 
+may-differ-requires : tie.Need-may-differ-requires
+may-differ-requires c κs = search needs
+
 packed-requires : tie.Need-packed-requires
 packed-requires c κs = search needs
 
@@ -42,6 +45,12 @@ same-length-2 c = search needs
 returns-2 : tie.Need-returns-2
 returns-2 c = search needs
 
+same-length-3 : tie.Need-same-length-3
+same-length-3 c = search needs
+
+returns-3 : tie.Need-returns-3
+returns-3 c = search needs
+
 pub is-same-alone-spec : {M : Type 1} → statement M
 is-same-alone-spec =
     tie.close
@@ -50,6 +59,7 @@ is-same-alone-spec =
     slice-relend-prefix-alone
     slice-aggregate-alone
     alone-requires
+    may-differ-requires
     packed-requires
     packed-requires-2
     part-requires
@@ -57,4 +67,6 @@ is-same-alone-spec =
     same-length
     returns
     same-length-2
-    returns-2)
+    returns-2
+    same-length-3
+    returns-3)

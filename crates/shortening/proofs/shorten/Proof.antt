@@ -1,5 +1,5 @@
 -- `shortening::shorten` meets its contract, by the laws of Kept. Assumes nothing.
-use Rattle.admission.proofs.Lent.{enough, lent}
+use Rattle.work.proofs.Lent.{within, taken}
 use Rattle.shortening.proofs.Kept.{refused, kept}
 use borrow.Author.Needs.{needs}
 use Rattle.shortening.proofs.shorten.Statement.{statement}
@@ -30,22 +30,23 @@ returns c =
     refused (args .pass) (args .card .now) (args .root .now) (args .out .now) (args .work .now) (λ i. shared-slice-known .given i .fits)
     (λ i. shared-slice-known2 .given i .fits) _ (admit .ensures) _ (v .given .1)
 
+for-table-requires : tie.Need-for-table-requires
+for-table-requires c κs = search needs
+
 plain-requires : tie.Need-plain-requires
 plain-requires c κs = search needs
 
 slice-relend-prefix-write : tie.Need-slice-relend-prefix-write
 slice-relend-prefix-write c =
-    let args = c .before .before .before .before .before .before .before .before .before .args in
-    let admit = c .before .before .before .before .admit in
-    let enum-told = c .before .before .enum-told in
-    enough (args .card .now) (args .root .now) (args .work .now) _ (admit .ensures) (enum-told .given .1)
+    let args = c .before .before .before .before .before .before .before .before .before .before .args in
+    let for-table = c .before .before .for-table in
+    within (args .work .now) _ (for-table .ensures)
 
 slice-aggregate-write : tie.Need-slice-aggregate-write
 slice-aggregate-write c =
-    let args = c .before .before .before .before .before .before .before .before .before .before .args in
-    let admit = c .before .before .before .before .before .admit in
-    let enum-told = c .before .before .before .enum-told in
-    lent (args .card .now) (args .root .now) (args .work .now) _ (admit .ensures) (enum-told .given .1)
+    let args = c .before .before .before .before .before .before .before .before .before .before .before .args in
+    let for-table = c .before .before .before .for-table in
+    taken (args .work .now) _ (for-table .ensures)
 
 write-requires : tie.Need-write-requires
 write-requires c κs = search needs
@@ -64,21 +65,22 @@ same-length-2 c = search needs
 
 returns-2 : tie.Need-returns-2
 returns-2 c =
-    let args = c .before .before .before .before .before .before .before .before .before .before .before .before .before .before .before .before
+    let args = c .before .before .before .before .before .before .before .before .before .before .before .before .before .before .before .before .before
     .before .before .before .before .args in
-    let shared-slice-known = c .before .before .before .before .before .before .before .before .before .before .before .before .before .before .before
+    let shared-slice-known = c .before .before .before .before .before .before .before .before .before .before .before .before .before .before .before .before
     .before .before .before .before .shared-slice-known in
-    let shared-slice-known2 = c .before .before .before .before .before .before .before .before .before .before .before .before .before .before
+    let shared-slice-known2 = c .before .before .before .before .before .before .before .before .before .before .before .before .before .before .before
     .before .before .before .before .shared-slice-known2 in
-    let admit = c .before .before .before .before .before .before .before .before .before .before .before .before .before .before .before .admit in
-    let enum-told = c .before .before .before .before .before .before .before .before .before .before .before .before .before .enum-told in
+    let admit = c .before .before .before .before .before .before .before .before .before .before .before .before .before .before .before .before .admit in
+    let enum-told = c .before .before .before .before .before .before .before .before .before .before .before .before .before .before .enum-told in
     let write = c .before .before .before .before .before .before .before .before .before .write in
     let clear = c .before .before .before .clear in
     let answer-of = c .answer-of in
     let plain = c .before .before .before .before .before .before .before .before .before .before .before .before .plain in
+    let for-table = c .before .before .before .before .before .before .before .before .before .before .before .before .before .for-table in
     kept (args .pass) (args .card .now) (args .root .now) (args .out .now) (args .work .now) (λ i. shared-slice-known .given i .fits)
-    (λ i. shared-slice-known2 .given i .fits) _ (admit .ensures) (enum-told .given .1) _ (plain .ensures) _ _ _ (write .ensures) _ (clear .ensures) _
-    (answer-of .ensures)
+    (λ i. shared-slice-known2 .given i .fits) _ (admit .ensures) (enum-told .given .1) _ (for-table .ensures) _ (plain .ensures) _ _ _ (write .ensures) _
+    (clear .ensures) _ (answer-of .ensures)
 
 pub shorten-spec : {M : Type 1} → statement M
 shorten-spec =
@@ -88,6 +90,7 @@ shorten-spec =
     enum-told
     enum-known-v
     returns
+    for-table-requires
     plain-requires
     slice-relend-prefix-write
     slice-aggregate-write

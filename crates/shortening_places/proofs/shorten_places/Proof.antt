@@ -1,5 +1,5 @@
 -- `shortening_places::shorten_places` meets its contract, by the laws of Kept. Assumes nothing.
-use Rattle.admission.proofs.Lent.{enough, lent}
+use Rattle.work.proofs.Lent.{within, taken}
 use Rattle.shortening_places.proofs.Kept.{refused, kept}
 use borrow.Author.Needs.{needs}
 use Rattle.shortening_places.proofs.shorten_places.Statement.{statement}
@@ -24,19 +24,20 @@ returns c =
     refused (args .pass) (args .card .now) (args .root .now) (args .out .now) (args .work .now) (args .list .now) (λ i. shared-slice-known .given i .fits)
     (λ i. shared-slice-known2 .given i .fits) _ (admit .ensures) _ (v .given .1)
 
+for-table-requires : tie.Need-for-table-requires
+for-table-requires c κs = search needs
+
 slice-relend-prefix-write-places : tie.Need-slice-relend-prefix-write-places
 slice-relend-prefix-write-places c =
-    let enum-told = c .before .enum-told in
-    let admit = c .before .before .before .admit in
-    let args = c .before .before .before .before .before .before .before .before .before .args in
-    enough (args .card .now) (args .root .now) (args .work .now) _ (admit .ensures) (enum-told .given .1)
+    let for-table = c .before .for-table in
+    let args = c .before .before .before .before .before .before .before .before .before .before .args in
+    within (args .work .now) _ (for-table .ensures)
 
 slice-aggregate-write-places : tie.Need-slice-aggregate-write-places
 slice-aggregate-write-places c =
-    let enum-told = c .before .before .enum-told in
-    let admit = c .before .before .before .before .admit in
-    let args = c .before .before .before .before .before .before .before .before .before .before .args in
-    lent (args .card .now) (args .root .now) (args .work .now) _ (admit .ensures) (enum-told .given .1)
+    let for-table = c .before .before .for-table in
+    let args = c .before .before .before .before .before .before .before .before .before .before .before .args in
+    taken (args .work .now) _ (for-table .ensures)
 
 write-places-requires : tie.Need-write-places-requires
 write-places-requires c κs = search needs
@@ -61,17 +62,19 @@ returns-2 c =
     let listed-of = c .listed-of in
     let clear = c .before .before .before .clear in
     let write-places = c .before .before .before .before .before .before .before .before .before .before .before .write-places in
-    let enum-told = c .before .before .before .before .before .before .before .before .before .before .before .before .before .before .before .enum-told in
-    let admit = c .before .before .before .before .before .before .before .before .before .before .before .before .before .before .before .before
+    let enum-told = c .before .before .before .before .before .before .before .before .before .before .before .before .before .before .before .before .enum-told in
+    let admit = c .before .before .before .before .before .before .before .before .before .before .before .before .before .before .before .before .before
     .before .admit in
-    let shared-slice-known2 = c .before .before .before .before .before .before .before .before .before .before .before .before .before .before
+    let shared-slice-known2 = c .before .before .before .before .before .before .before .before .before .before .before .before .before .before .before
     .before .before .before .before .before .before .before .shared-slice-known2 in
-    let shared-slice-known = c .before .before .before .before .before .before .before .before .before .before .before .before .before .before .before
+    let shared-slice-known = c .before .before .before .before .before .before .before .before .before .before .before .before .before .before .before .before
     .before .before .before .before .before .before .before .shared-slice-known in
-    let args = c .before .before .before .before .before .before .before .before .before .before .before .before .before .before .before .before
+    let args = c .before .before .before .before .before .before .before .before .before .before .before .before .before .before .before .before .before
     .before .before .before .before .before .before .before .args in
+    let for-table = c .before .before .before .before .before .before .before .before .before .before .before .before .before .before .before .for-table in
     kept (args .pass) (args .card .now) (args .root .now) (args .out .now) (args .work .now) (args .list .now) (λ i. shared-slice-known .given i .fits)
-    (λ i. shared-slice-known2 .given i .fits) _ (admit .ensures) (enum-told .given .1) _ _ _ _ (write-places .ensures) _ (clear .ensures) _ (listed-of .ensures)
+    (λ i. shared-slice-known2 .given i .fits) _ (admit .ensures) (enum-told .given .1) _ (for-table .ensures) _ _ _ _
+    (write-places .ensures) _ (clear .ensures) _ (listed-of .ensures)
 
 pub shorten-places-spec : {M : Type 1} → statement M
 shorten-places-spec =
@@ -81,6 +84,7 @@ shorten-places-spec =
     enum-told
     enum-known-v
     returns
+    for-table-requires
     slice-relend-prefix-write-places
     slice-aggregate-write-places
     write-places-requires

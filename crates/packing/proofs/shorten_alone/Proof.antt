@@ -1,8 +1,9 @@
--- `console::shorten` meets its contract. Assumes nothing.
-use Rattle.console.proofs.Packs.{packs}
+-- `packing::shorten_alone` meets its contract. Assumes nothing.
+use lib.ListN.{replicate}
+use Rattle.packing.proofs.Packs.{packs}
 use borrow.Author.Needs.{needs}
-use Rattle.console.proofs.shorten.Statement.{statement}
-use Rattle.console.proofs.shorten.Tie as tie
+use Rattle.packing.proofs.shorten_alone.Statement.{statement}
+use Rattle.packing.proofs.shorten_alone.Tie as tie
 
 shorten-alone-requires : tie.Need-shorten-alone-requires
 shorten-alone-requires c κs = search needs
@@ -19,9 +20,9 @@ returns c =
     let shared-slice-known = c .before .before .before .before .before .before .before .shared-slice-known in
     let shorten-alone = c .before .before .before .shorten-alone in
     let packed = c .packed in
-    packs (args .pass) (args .card .now) (args .root .now) (args .out .now) _ _ _ (λ i. shared-slice-known .given i .fits) (shorten-alone .ensures)
-    (packed .ensures)
+    packs (args .pass) (args .card .now) (args .root .now) (args .out .now) (replicate 2048 0) (λ i. shared-slice-known .given i .fits) _ _ _
+    (packed .ensures) (shorten-alone .ensures)
 
-pub shorten-spec : {M : Type 1} → statement M
-shorten-spec =
+pub shorten-alone-spec : {M : Type 1} → statement M
+shorten-alone-spec =
     tie.close (tie.spec shorten-alone-requires packed-requires same-length returns)

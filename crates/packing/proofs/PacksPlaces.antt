@@ -4,7 +4,7 @@ use mathlib.Core.Bool.{Bool, cond}
 use mathlib.Core.List.{List}
 use Prim.Native.Nat.{ℕ, _+_, _*_, _<_, _≤_}
 use native.Mathlib.Omega.{arith}
-use lib.ListN.{length, take, getD, replicate}
+use lib.ListN.{length, take, getD}
 use lib.Dec.{eqb, ltb}
 use borrow.Author.Tests.{eq-eqb, ne-eqb}
 use Rattle.answers.specs.declared.Verdict.{Verdict}
@@ -26,9 +26,10 @@ use Rattle.places.proofs.Rises.{places-few}
 use Rattle.operation.specs.declared.Pass.{Pass}
 use Rattle.operation.specs.Passes.{repeats, asked}
 use Rattle.shortening_places.specs.declared.Listed.{Listed}
-use Rattle.shortening_places.specs.Placed.{Alone}
-use Rattle.console.proofs.Plain.{value-small}
-use Rattle.console.specs.PackedPlaces.{PackedPlaces}
+use Rattle.shortening_places.specs.Placed.{Promise, Answered}
+use Rattle.shortening_places.proofs.Kept.{answered}
+use Rattle.packing.proofs.Plain.{value-small}
+use Rattle.packing.specs.PackedPlaces.{PackedListing, PackedPlaces}
 
 module _ (pass : Pass) (card root out : Bytes) (work list : List ℕ) (b : AreBytes card) where
   abbrev L : Listing
@@ -73,43 +74,38 @@ module _ (pass : Pass) (card root out : Bytes) (work list : List ℕ) (b : AreBy
   answer-whole : packed (L .answer) ≡ number (L .answer) * 4294967296 + value (L .answer)
   answer-whole = packed-plain (L .answer) value-whole
 
-abbrev own-words : List ℕ
-own-words = replicate 2048 0
+module _ (pass : Pass) (card root out : Bytes) (work list : List ℕ) where
+  abbrev Due : Listing
+  Due = shortenListing (asked pass) card root out work list
 
-module _ (pass : Pass) (card root out : Bytes) (list : List ℕ) (entries : ℕ) (bc : (i : ℕ) → getD card i 0 < 256) {r : Listed} {out′ : Bytes} {list′ : List ℕ}
-    (p : Alone pass card root out list r out′ list′) where
-  pub entries-fit : r .entries < 4294967296
-  entries-fit = let e = p .entries-are in let l = entries-whole pass card root out own-words list (are-bytes card bc) in omega (arith, e, l)
+  module _ (b : (i : ℕ) → getD card i 0 < 256) (r : Listed) (out′ : Bytes) (list′ : List ℕ) where
+    pub entries-fit : Answered pass card root Due r out′ list′ → r .entries < 4294967296
+    entries-fit p = let e = p .entries-are in let l = entries-whole pass card root out work list (are-bytes card b) in omega (arith, e, l)
 
-  abbrev Number : ℕ
-  Number = number (shortenListing (asked pass) card root out own-words list .answer)
+    module _ (entries a entries′ : ℕ) (e : (a ≡ packed (r .answer)) × (entries′ ≡ cond (eqb (number (r .answer)) 0) (r .entries) entries)) where
+      pub packs : Answered pass card root Due r out′ list′ → PackedListing pass card root Due entries a out′ list′ entries′
+      packs p =
+          record {
+            answer-is = e .0 ∙ ap packed (p .answer-is) ∙ answer-whole pass card root out work list (are-bytes card b);
+            whole = value-whole pass card root out work list (are-bytes card b);
+            out-is = p .out-is;
+            list-is = p .list-is;
+            entries-are = rw (← p .answer-is, ← p .entries-are) (e .1);
+            names = λ n h. p .names n (p .answer-is ∙ h);
+            bound = λ n h. p .bound n (p .answer-is ∙ h);
+            exact = λ n h.
+                let z : entries′ ≡ r .entries =
+                e .1 ∙ ap (λ (x : Bool). cond x (r .entries) entries) (eq-eqb (number (r .answer)) 0 (ap number (p .answer-is ∙ h))) in
+                subst (λ (k : ℕ). ListExact card (take n out′) k list′) (sym z) (p .exact n (p .answer-is ∙ h));
+          }
 
-  -- where it refuses the lent word is left
-  packs-as : (a entries′ : ℕ) → a ≡ packed (r .answer)
-      → entries′ ≡ cond (eqb Number 0) (r .entries) entries
-      → PackedPlaces pass card root out list entries a out′ list′ entries′
-  packs-as a entries′ e f =
-      record {
-        answer-is = e ∙ ap packed (p .answer-is) ∙ answer-whole pass card root out own-words list (are-bytes card bc);
-        whole = value-whole pass card root out own-words list (are-bytes card bc);
-        out-is = p .out-is;
-        list-is = p .list-is;
-        entries-are = f ∙ ap (λ (n : ℕ). cond (eqb Number 0) n entries) (p .entries-are);
-        names = λ n h. p .names n (p .answer-is ∙ h);
-        bound = λ n h. p .bound n (p .answer-is ∙ h);
-        exact = λ n h.
-            let z : entries′ ≡ r .entries = f ∙ ap (λ (x : Bool). cond x (r .entries) entries) (eq-eqb Number 0 (ap number h)) in
-            subst (λ (k : ℕ). ListExact card (take n out′) k list′) (sym z) (p .exact n (p .answer-is ∙ h));
-      }
+      pub packs-promise : (work′ : List ℕ) → Promise pass card root out work list r out′ work′ list′
+          → PackedPlaces pass card root out work list entries a out′ work′ list′ entries′
+      packs-promise work′ p = record { packed = packs (answered p); work-is = ap (λ (x : Listing). x .work) (p .fixed) }
 
-  pub packs-refusal : (k a : ℕ) → k ≡ number (r .answer) → 0 < k → a ≡ packed (r .answer) → PackedPlaces pass card root out list entries a out′ list′ entries
-  packs-refusal k a q l e =
-      packs-as a entries e
-      (sym (ap (λ (x : Bool). cond x (r .entries) entries)
-      (ne-eqb Number 0 (λ z. let f = ap number (p .answer-is) in omega (arith, z, f, q, l)))))
+-- the lent word, by whether the answer is a refusal
+pub put-by : (r : Listed) (entries k : ℕ) → k ≡ number (r .answer) → k ≡ 0 → r .entries ≡ cond (eqb (number (r .answer)) 0) (r .entries) entries
+put-by r entries k q z = sym (ap (λ (x : Bool). cond x (r .entries) entries) (eq-eqb (number (r .answer)) 0 (sym q ∙ z)))
 
-  pub packs-entries : (k a : ℕ) → k ≡ number (r .answer) → k ≤ 0 → a ≡ packed (r .answer)
-      → PackedPlaces pass card root out list entries a out′ list′ (r .entries)
-  packs-entries k a q l e =
-      packs-as a (r .entries) e
-      (sym (ap (λ (x : Bool). cond x (r .entries) entries) (eq-eqb Number 0 (let f = ap number (p .answer-is) in omega (arith, f, q, l)))))
+pub left-by : (r : Listed) (entries k : ℕ) → k ≡ number (r .answer) → (k ≡ 0 → ⊥) → entries ≡ cond (eqb (number (r .answer)) 0) (r .entries) entries
+left-by r entries k q z = sym (ap (λ (x : Bool). cond x (r .entries) entries) (ne-eqb (number (r .answer)) 0 (λ e. z (q ∙ e))))

@@ -49,7 +49,7 @@ module _ (again : Bool) (card root out : Bytes) (work : List ℕ) (b : AreBytes 
           rw e (omega arith)
       go Sound e =
           let s = admitted-sound O card root (length work) e in
-          by-option (fullTable O 512 (deep (tree card)) (tree card) (MSel (tree root) (nameOf (tree card))) 0)
+          by-option (fullTable O (O .mostPairs (length work)) (deep (tree card)) (tree card) (MSel (tree root) (nameOf (tree card))) 0)
           (λ t. by-test (ltb (length out) (length (output O card root out work)))
           (λ r. rw (e, t, r) (omega arith))
           (λ r. let l = card-most again (tree root) card b (s .card-sound) in let m = s .card-length in rw (e, t, r) (omega arith)))

@@ -67,6 +67,12 @@ fn global_types(names: &[String]) -> Bytes {
     only_types(&names.iter().map(|name| ty(&format!("::{name}"))).collect::<Vec<_>>())
 }
 
+/// One name under so many different bases, in fewer bytes.
+pub fn close_bases(count: usize) -> Vec<u8> {
+    let bases = Draws(10).names(count, 3);
+    module("m", &[only_types(&bases.iter().map(|base| ty(&format!("::{base}::X"))).collect::<Vec<_>>())])
+}
+
 /// One name under so many different bases, equally long.
 pub fn one_name(bases: usize) -> Vec<u8> {
     let mut draws = Draws(2);
@@ -103,10 +109,10 @@ pub fn crowded() -> Vec<u8> {
 
 /// A module that leaves room for few pairs more, and nested modules that are too large to borrow words of its table, each
 /// followed by a declaration with a path under the parent's prefix: the parent is collected again after each.
-pub fn evicting() -> Vec<u8> {
+pub fn evicting(own: usize, inner: usize) -> Vec<u8> {
     let mut draws = Draws(7);
-    let own = draws.names(490, 3);
-    let inner = draws.names(17, 4);
+    let own = draws.names(own, 3);
+    let inner = draws.names(inner, 4);
     let types = draws.names(22, 5);
     let mut body: Vec<Bytes> = own.iter().map(|name| nested(extern_module(name))).collect();
     for (i, name) in inner.iter().enumerate() {

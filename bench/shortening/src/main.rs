@@ -71,7 +71,7 @@ fn of_classes() -> Vec<Class> {
     list.push(one("one name", classes::one_name(512)));
     list.push(one("nested", classes::nested_modules(200)));
     list.push(one("crowded", classes::crowded()));
-    list.push(one("evicting", classes::evicting()));
+    list.push(one("evicting", classes::evicting(490, 17)));
     list.push(one("colliding", classes::colliding(480)));
     list.push(one("deep types", classes::deep_types(50)));
     list
@@ -86,7 +86,10 @@ fn of_lent_classes() -> Vec<Class> {
     let paths = [(128, "128 paths"), (512, "512 paths"), (700, "700 paths"), (1024, "1,024 paths")];
     let pairs = [(700, "700 pairs"), (1024, "1,024 pairs")];
     let of_paths = paths.map(|(n, what)| one(what, classes::paths(n)));
-    of_paths.into_iter().chain(pairs.map(|(n, what)| one(what, classes::close_pairs(n)))).collect()
+    let of_pairs = pairs.map(|(n, what)| one(what, classes::close_pairs(n)));
+    // The slowest for their size.
+    let slow = [one("800 bases", classes::close_bases(800)), one("8 evicting", classes::evicting(990, 8))];
+    of_paths.into_iter().chain(of_pairs).chain(slow).collect()
 }
 
 /// A way by an operation, without a list or with one that is long enough.

@@ -3,7 +3,7 @@ use mathlib.Core.Path.{_≡_, refl, ap, sym, _∙_}
 use mathlib.Core.List.{List}
 use mathlib.Core.Bool.{Bool}
 use mathlib.Core.Option.{Option, none, Option·none-ne-some}
-use Prim.Native.Nat.{ℕ, zero, suc, _/_, _≤_, _<_, min}
+use Prim.Native.Nat.{ℕ, zero, suc, _≤_, _<_}
 use native.Mathlib.Omega.{arith}
 use lib.ListN.{length, replicate}
 use lib.Dec.{ltb}
@@ -61,7 +61,7 @@ module _ (again : Bool) (card root out : Bytes) (work : List ℕ) where
   O = shortening again
 
   -- a card that is admitted comes with words for 512 pairs
-  enough : admitted O card root (length work) ≡ Sound → 512 ≤ min (length work / 4) 1024
+  enough : admitted O card root (length work) ≡ Sound → 512 ≤ O .mostPairs (length work)
   enough e = let w = admitted-sound O card root (length work) e .enough in omega (arith, w)
 
   -- THE LAW: a call that 8 was not the answer to is answered as before, and what is lent is after it as before
@@ -77,7 +77,7 @@ module _ (again : Bool) (card root out : Bytes) (work : List ℕ) where
           (λ t. rw (
             e,
             t,
-            more-none O 512 (min (length work / 4) 1024) (enough e) (deep (tree card)) (tree card)
+            more-none O 512 (O .mostPairs (length work)) (enough e) (deep (tree card)) (tree card)
                 (MSel (tree root) (nameOf (tree card))) 0 t,
           ))
           (λ place t. absurd (h place (rw (e, t))))
@@ -95,7 +95,7 @@ module _ (again : Bool) (card root out : Bytes) (work : List ℕ) where
       go (Refused a) e = rw e
       go Sound e =
           let w = admitted-sound O card root (length work) e .enough in
-          let q : min (length work / 4) 1024 ≡ 512 = omega (arith, w, l) in
+          let q : O .mostPairs (length work) ≡ 512 = omega (arith, w, l) in
           rw (e, q)
 
 -- A card that is accepted is accepted with more words, and with the same output
@@ -112,7 +112,7 @@ with-more again card root out work more l n h =
       brief = p .brief;
       rooted = p .rooted;
       sound = p .sound;
-      table = more-none O (min (length work / 4) 1024) (min (length more / 4) 1024) (omega (arith, l)) (deep (tree card)) (tree card)
+      table = more-none O (O .mostPairs (length work)) (O .mostPairs (length more)) (omega (arith, l)) (deep (tree card)) (tree card)
           (MSel (tree root) (nameOf (tree card))) 0 (p .table);
       room = p .room;
     } in

@@ -3,7 +3,7 @@ use mathlib.Core.Path.{_≡_, refl, sym, ap, _∙_}
 use mathlib.Core.Bool.{cond}
 use mathlib.Core.List.{List, _++_}
 use mathlib.Core.Option.{Option, none, some}
-use Prim.Native.Nat.{ℕ, _+_, _/_, _<_, _≤_, min}
+use Prim.Native.Nat.{ℕ, _+_, _<_, _≤_}
 use native.Mathlib.Omega.{arith}
 use lib.ListN.{length, take, drop, getD, replicate, length-drop, length-append}
 use lib.Dec.{ltb}
@@ -47,21 +47,17 @@ promised pass card root out work a out′ work′ bc br e =
       bound = λ n h. accepted-times (repeats pass) card root out work n (are-bytes card bc) (ap (λ (o : Outcome). o .answer) (sym e) ∙ h);
     }
 
--- how many pairs a table may have, with so many words lent
-abbrev limit : ℕ → ℕ
-limit words = min (words / 4) 1024
-
 -- what is made of a card that is admitted, by words that have room for as many pairs as there may be, or for all that the card can have
 module _ (op : Shortening) (weightless : weightOf op ≡ 0) (card root out : Bytes) (work : List ℕ)
     (bc : (i : ℕ) → getD card i 0 < 256) (br : (i : ℕ) → getD root i 0 < 256)
     (is-sound : admitted (operationOf op) card root (length work) ≡ Sound) (words : List ℕ)
     (enough-words : FullAt op card root (length work) is-sound bc br (room words)
-    ≡ FullAt op card root (length work) is-sound bc br (limit (length work))) where
+    ≡ FullAt op card root (length work) is-sound bc br (upstream .mostPairs (length work))) where
   abbrev Whole : Bytes
   Whole = Bytes′ op card root (length work) is-sound bc br
 
   abbrev Place : Option ℕ
-  Place = FullAt op card root (length work) is-sound bc br (limit (length work))
+  Place = FullAt op card root (length work) is-sound bc br (upstream .mostPairs (length work))
 
   room-same : length Whole ≤ length out → length (Whole ++ drop (length Whole) out) ≡ length out
   room-same l = let a = length-append Whole (drop (length Whole) out) in let b = length-drop (length Whole) out in omega arith

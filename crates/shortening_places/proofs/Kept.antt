@@ -2,7 +2,7 @@
 use mathlib.Core.Path.{_≡_, refl, sym, ap, _∙_}
 use mathlib.Core.List.{List, _++_}
 use mathlib.Core.Option.{Option, none, some}
-use Prim.Native.Nat.{ℕ, _+_, _*_, _/_, _<_, min}
+use Prim.Native.Nat.{ℕ, _+_, _*_, _<_}
 use lib.ListN.{length, take, drop, getD, replicate}
 use lib.Dec.{ltb}
 use borrow.Author.Tests.{ne-eqb}
@@ -46,12 +46,12 @@ promised pass card root out work list r out′ work′ list′ bc br e =
 -- what is written of a card that is admitted, by words that have room for as many pairs as there may be
 module _ (pass : Pass) (card root out : Bytes) (work list : List ℕ) (bc : (i : ℕ) → getD card i 0 < 256) (br : (i : ℕ) → getD root i 0 < 256)
     (is-sound : admitted (asked pass) card root (length work) ≡ Sound) (words : List ℕ)
-    (enough : room words ≡ min (length work / 4) 1024)
+    (enough : room words ≡ upstream .mostPairs (length work))
     (p : Placed) (out′ : Bytes) (words′ list′ : List ℕ) (o : placing p out′ words′ list′ ≡ placed pass card root words list out) where
   result : Result pass card root (length work) is-sound bc br words list out (placing p out′ words′ list′)
   result = rw o (placed-sound pass card root (length work) is-sound bc br words list out)
 
-  is-listing : (x : Option ℕ) → FullAt pass card root (length work) is-sound bc br (min (length work / 4) 1024) ≡ x
+  is-listing : (x : Option ℕ) → FullAt pass card root (length work) is-sound bc br (upstream .mostPairs (length work)) ≡ x
       → listing (listedOf p .answer) (listedOf p .entries) out′ (replicate (length work) 0) list′ ≡ shortenListing (asked pass) card root out work list
   unfolding shortenListing shorten
   is-listing none q =
@@ -61,7 +61,7 @@ module _ (pass : Pass) (card root out : Bytes) (work list : List ℕ) (bc : (i :
   is-listing (some place) q = rw (result .answer-is, result .out-is, result .list-is, enough, is-sound, q)
 
   pub made : listing (listedOf p .answer) (listedOf p .entries) out′ (replicate (length work) 0) list′ ≡ shortenListing (asked pass) card root out work list
-  made = is-listing (FullAt pass card root (length work) is-sound bc br (min (length work / 4) 1024)) refl
+  made = is-listing (FullAt pass card root (length work) is-sound bc br (upstream .mostPairs (length work))) refl
 
 module _ (pass : Pass) (card root out : Bytes) (work list : List ℕ) (bc : (i : ℕ) → getD card i 0 < 256) (br : (i : ℕ) → getD root i 0 < 256)
     (v : Verdict) (e : v ≡ admitted upstream card root (length work)) where

@@ -2,6 +2,14 @@
 
 pub type Bytes = Vec<u8>;
 
+/// The root crate.
+pub const CRATE: [u8; 6] = [2, 0, 0, 0, 0x11, 0];
+
+/// One of 1,600 names of two letters and signs, for long cards.
+pub fn brief(i: usize) -> String {
+    [i / 40, i % 40].iter().map(|&sign| char::from(b'A' + sign as u8)).collect()
+}
+
 pub fn record(kind: u16, fields: &[Bytes]) -> Bytes {
     let content = fields.concat();
     let length = 2 + content.len() as u32;

@@ -107,8 +107,9 @@ pub fn crowded() -> Vec<u8> {
     module("m", &body)
 }
 
-/// A module that leaves room for few pairs more, and nested modules that are too large to borrow words of its table, each
-/// followed by a declaration with a path under the parent's prefix: the parent is collected again after each.
+/// A module with so many names of its own and so many nested modules, which are too large to borrow words of its table, each
+/// followed by a declaration with a path under the parent's prefix. Where the parent's pairs leave too few of the words
+/// lent, it is collected again after each.
 pub fn evicting(own: usize, inner: usize) -> Vec<u8> {
     let mut draws = Draws(7);
     let own = draws.names(own, 3);

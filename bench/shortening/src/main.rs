@@ -6,6 +6,7 @@ use compare::{agree, Buffers, Case, Way, LONG, WAYS};
 use std::hint::black_box;
 use std::process::ExitCode;
 use std::time::{Duration, Instant};
+use yardstick::cards::CRATE;
 use yardstick::random::Cards;
 use yardstick::text;
 use yardstick::{classes, own, reader, tree, Answer, Operation, MOST_CARD, MOST_TIMES, WORDS};
@@ -56,9 +57,6 @@ struct Class {
     /// Whether work words are lent. Else each call brings its own.
     lends: bool,
 }
-
-/// The root of every class.
-const CRATE: [u8; 6] = [2, 0, 0, 0, 0x11, 0];
 
 /// Those for which each call brings its own work words.
 fn of_classes() -> Vec<Class> {

@@ -1,5 +1,5 @@
 //! Random cards, sound and damaged.
-use crate::cards::{extern_module, kept, list, nested, only_types, path, record, select, text, Bytes};
+use crate::cards::{brief, extern_module, kept, list, nested, only_types, path, record, select, text, Bytes};
 use crate::rows::{Place, Shape, What, DECLARATIONS, ROWS};
 use crate::{most_pairs, MOST_CARD, WORDS};
 
@@ -258,8 +258,7 @@ impl Cards {
 
     /// Declarations with nearly as many pairs as a module may have, or one too many: own names or paths.
     fn about_full(&mut self) -> Vec<Bytes> {
-        let name = |i: usize| [b'A' + (i / 40) as u8, b'A' + (i % 40) as u8];
-        let names = (0..self.most - 14 + self.draws.below(16)).map(name);
+        let names = (0..self.most - 14 + self.draws.below(16)).map(brief);
         match self.draws.once(2) {
             true => names.map(|name| nested(extern_module(name))).collect(),
             false => {

@@ -69,13 +69,8 @@ pub fn limits() -> Vec<Stated> {
     ]
 }
 
-/// Short names, for long cards.
-fn brief(i: u32) -> String {
-    format!("{}{}", char::from(b'A' + (i / 40) as u8), char::from(b'A' + (i % 40) as u8))
-}
-
 /// So many declarations that have a pair each.
-fn own(count: u32) -> Vec<Bytes> {
+fn own(count: usize) -> Vec<Bytes> {
     (0..count).map(|i| nested(extern_module(brief(i)))).collect()
 }
 

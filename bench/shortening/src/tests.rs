@@ -368,7 +368,8 @@ fn limits_of_pairs() {
 #[test]
 fn classes() {
     use crate::classes::*;
-    let cards = [least(), small(), one_name(512), nested_modules(200), crowded(), deep_types(50)];
+    let cards =
+        [least(), small(), one_name(512), nested_modules(200), crowded(), evicting(490, 17), deep_types(50)];
     let sized = [1, 4, 16, 32].map(|k| typical(k << 10));
     let accepted = |card: &Vec<u8>, lent, words| {
         Operation::BOTH.into_iter().all(|operation| answer(operation, card, lent, words).is_ok())
@@ -376,12 +377,15 @@ fn classes() {
     let with_pairs = [8, 32, 128, 512].map(pairs);
     assert!(cards.iter().chain(&sized).chain(&with_pairs).all(|card| accepted(card, 65536, WORDS)));
     let lent = [128, 512, 700, 1024].map(paths).into_iter().chain([700, 1024].map(close_pairs));
-    assert!({ lent }.all(|card| accepted(&card, 131072, 4096)));
+    let slow = [close_bases(800), evicting(990, 8)];
+    assert!(lent.chain(slow).all(|card| accepted(&card, 131072, 4096)));
     let root = path("crate");
     let count = |card: &[u8]| tree::outermost(card, &root, 4096).map(|mapping| mapping.pairs.len());
     assert_eq!([8, 32, 128, 512].map(|n| count(&pairs(n))), [8, 32, 128, 512].map(Ok));
     assert_eq!(count(&one_name(512)), Ok(512));
     assert_eq!(count(&crowded()), Ok(511));
+    assert_eq!([(490, 17), (990, 8)].map(|(own, inner)| count(&evicting(own, inner))), [507, 998].map(Ok));
+    assert_eq!(count(&close_bases(800)), Ok(800));
     assert_eq!([128, 512, 700, 1024].map(|n| count(&paths(n))), [128, 512, 700, 1024].map(Ok));
     assert_eq!([700, 1024].map(|n| count(&close_pairs(n))), [700, 1024].map(Ok));
 }

@@ -7,7 +7,7 @@ use crate::say_output;
 use answers::Answer;
 use libc::STDOUT_FILENO;
 use operation::Pass;
-use shortening_places::Listed;
+use placing::Listed;
 ghost use mathlib.Core.Path.{_≡_};
 ghost use lib.ListN.{length};
 

@@ -25,7 +25,7 @@ use Rattle.places.specs.Listing.{Listing, places, shortenListing}
 use Rattle.places.proofs.Rises.{places-few}
 use Rattle.operation.specs.declared.Pass.{Pass}
 use Rattle.operation.specs.Passes.{repeats, asked}
-use Rattle.shortening_places.specs.declared.Listed.{Listed}
+use Rattle.placing.specs.declared.Listed.{Listed}
 use Rattle.shortening_places.specs.Placed.{Promise, Answered}
 use Rattle.shortening_places.proofs.Kept.{answered}
 use Rattle.packing.proofs.Plain.{value-small}

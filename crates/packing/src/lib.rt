@@ -1,6 +1,6 @@
 // The public calls with their answers as one number, for a host: a refusal's number times 2 ^ 32, plus the output's length or the place.
 use operation::Pass;
-use shortening_places::Listed;
+use placing::Listed;
 ghost use mathlib.Core.Path.{_≡_};
 ghost use mathlib.Core.Bool.{cond};
 ghost use Prim.Native.Nat.{_<_, _^_};

@@ -3,7 +3,7 @@
 use mathlib.Core.Path.{_≡_, ap, sym, _∙_}
 use mathlib.Core.List.{List, _++_}
 use mathlib.Core.Bool.{Bool}
-use Prim.Native.Nat.{ℕ, _*_, _≤_}
+use Prim.Native.Nat.{ℕ, _*_, _≤_, _<_}
 use native.Mathlib.Omega.{arith}
 use lib.ListN.{length, drop, replicate}
 use Rattle.answers.specs.Answers.{number}
@@ -14,7 +14,7 @@ use Rattle.outcome.specs.Outcome.{shorten}
 use Rattle.outcome.specs.Earlier.{earlier}
 use Rattle.outcome.proofs.Earlier as without
 use Rattle.places.specs.Places.{Entry, entryWords}
-use Rattle.places.specs.Listing.{Listing, listing, places, listed, shortenListing}
+use Rattle.places.specs.Listing.{Listing, listing, places, withList, shortenListing}
 use Rattle.places.specs.Earlier.{earlierListing}
 use Rattle.places.proofs.Listings.{Accepts, accepts}
 
@@ -30,12 +30,17 @@ module _ (again : Bool) (card root out : Bytes) (work list : List ℕ) where
   pub unless-full : ((place : ℕ) → earlierListing O card root out work list .answer ≡ FullTable place → ⊥)
       → shortenListing O card root out work list ≡ earlierListing O card root out work list
   unfolding shortenListing
-  unless-full h = ap (listed O card root out work list) (without.unless-full again card root out work (λ place e. h place (full-too place e)))
+  unless-full h = ap (withList O card root out work list) (without.unless-full again card root out work (λ place e. h place (full-too place e)))
 
   -- so every card that was accepted has the same output and the same list
   pub as-before : (n : ℕ) → earlierListing O card root out work list .answer ≡ Shortened n
       → shortenListing O card root out work list ≡ earlierListing O card root out work list
   as-before n a = unless-full (λ place f. let z = ap number (sym a ∙ f) in omega (arith, z))
+
+  -- and with fewer than 2,052 words every call is answered as before
+  pub same-limit : length work < 2052 → shortenListing O card root out work list ≡ earlierListing O card root out work list
+  unfolding shortenListing
+  same-limit l = ap (withList O card root out work list) (without.same-limit again card root out work l)
 
 -- A card that is accepted is accepted with more words, and with the same output and list
 module _ (again : Bool) (card root out : Bytes) (work more list : List ℕ) (l : length work ≤ length more) (n : ℕ) where

@@ -1,4 +1,5 @@
--- What an answer with a list says: of an acceptance demand 3 holds and the list is exact; a refusal leaves what is lent. Assumes nothing.
+-- What an answer with a list says: of an acceptance demand 3 holds and the list is exact; a refusal leaves the out buffer and the list.
+-- The work words are those without a list. Assumes nothing.
 use mathlib.Core.Path.{_≡_, refl, ap, ap₂, sym, subst, _∙_}
 use mathlib.Core.Bool.{Bool, false, true≢false}
 use mathlib.Core.List.{List, [], _++_, append-nil}

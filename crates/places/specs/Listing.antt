@@ -36,9 +36,9 @@ module _ (op : Operation) (card root out : Bytes) (work list : List ℕ) where
       cond (ltb (length list) (2 * length places)) (listing ShortList 0 out (o .work) list)
       (listing (o .answer) (length places) (o .out) (o .work) (entryWords places ++ drop (2 * length places) list))
 
-  -- a refusal by 1 to 9 comes first, and leaves the list
-  abbrev pub listed : Outcome → Listing
-  listed o = cond (eqb (number (o .answer)) 0) (accepted o) (listing (o .answer) 0 (o .out) (o .work) list)
+  -- a refusal by 1 to 9 or by 11 comes first, and leaves the list
+  abbrev pub withList : Outcome → Listing
+  withList o = cond (eqb (number (o .answer)) 0) (accepted o) (listing (o .answer) 0 (o .out) (o .work) list)
 
   unfoldable pub shortenListing : Listing
-  shortenListing = listed (shorten op card root out work)
+  shortenListing = withList (shorten op card root out work)

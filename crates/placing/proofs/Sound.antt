@@ -9,6 +9,7 @@ use lib.ListN.{length, take, drop, getD, length-append, length-drop}
 use lib.Seq.{take-append-seam}
 use lib.Dec.{leb, ltb}
 use borrow.Author.Tests.{lt-ltb, le-ltb, ltb-true, ltb-false, leb-true}
+use Rattle.answers.specs.declared.Answer.the-variants.{Shortened, FullTable, NoSpace, ShortList}
 use Rattle.answers.specs.declared.Verdict.the-variants.{Sound}
 use Rattle.wire.specs.Numbers.{Bytes}
 use Rattle.wire.proofs.Numbers.{are-bytes}
@@ -45,14 +46,13 @@ use Rattle.laying.specs.Lays.{lay}
 use Rattle.laying.proofs.Laws.{lay-whole}
 use Rattle.listing.specs.Lists.{cardPlaces}
 use Rattle.listing.proofs.Sound.{listing-card}
-use Rattle.measuring.specs.declared.Written.the-variants.{Full as Overfull, Length}
+use Rattle.measuring.specs.declared.Written.the-variants.{Full, Length}
 use Rattle.measuring.specs.Measured.{wholeOutput}
 use Rattle.measuring.proofs.Sound.{Result as Unweighed, whole-sound}
 use Rattle.modules.specs.Modules.{moduleMade, cardMade}
 use Rattle.modules.proofs.States.{found}
 use Rattle.modules.proofs.Outermost.{Outermost, Reads, admitted-reads, outermost-is}
-use Rattle.placing.specs.declared.Placed.the-variants.{Full, NoRoom, FewWords, Done}
-use Rattle.placing.specs.Placing.{Placing, weighedMade, plainMade, countedFirst, writtenFirst, placed}
+use Rattle.placing.specs.Placing.{listed, Placing, weighedMade, plainMade, countedFirst, writtenFirst, placed}
 
 -- a weighed length taken apart
 apart-length : (l e : ℕ) → l < 2 ^ 24 → (l + 2 ^ 24 * e) % 2 ^ 24 ≡ l
@@ -123,7 +123,8 @@ module _ (pass : Pass) (card root : Bytes) (n : ℕ) (sound : admitted (asked pa
       whether (FullAt most) (cond (ltb (length out) (length Whole)) no-room (cond (ltb (length list) (2 * length Places)) few-words done)) full
 
   pub record Result (words list : List ℕ) (out : Bytes) (o : Placing) : Type 0 where
-    pub answer-is : o .answer ≡ Chosen (room words) out list Full NoRoom FewWords (Done (length Whole) (length Places))
+    pub answer-is : o .answer ≡ Chosen (room words) out list (λ place. listed (FullTable place) 0) (listed NoSpace 0) (listed ShortList 0)
+        (listed (Shortened (length Whole)) (length Places))
     pub out-is : o .out ≡ Chosen (room words) out list (λ place. out) out out (Whole ++ drop (length Whole) out)
     pub list-is : o .list ≡ Chosen (room words) out list (λ place. list) list list (entryWords Places ++ drop (2 * length Places) list)
     pub words-long : length (o .words) ≡ length words
@@ -209,7 +210,7 @@ module _ (pass : Pass) (card root : Bytes) (n : ℕ) (sound : admitted (asked pa
         written : Unweighed (plainOf pass) card root n plain-sound bc br words out (wholeOutput (plainOf pass) card root words out)
         written = whole-sound (plainOf pass) card root n plain-sound bc br (plain-weight pass) words out
 
-        answer-is : wholeOutput (plainOf pass) card root words out .answer ≡ whether (FullAt (room words)) (Length (length Whole)) Overfull
+        answer-is : wholeOutput (plainOf pass) card root words out .answer ≡ whether (FullAt (room words)) (Length (length Whole)) Full
         answer-is = rw (pass-plain pass) at (written .answer-is)
 
         out-is : wholeOutput (plainOf pass) card root words out .out

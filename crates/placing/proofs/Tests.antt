@@ -7,6 +7,7 @@ use native.Mathlib.Omega.{arith}
 use lib.Dec.{ltb}
 use borrow.Author.Tests.{lt-ltb, le-ltb, le-leb, lt-leb}
 use Rattle.rast.proofs.Tests.{by-test}
+use Rattle.answers.specs.declared.Answer.the-variants.{Shortened, FullTable, NoSpace, ShortList}
 use Rattle.wire.specs.Numbers.{Bytes}
 use Rattle.places.specs.Places.{entryWords}
 use Rattle.operation.specs.declared.Pass.{Pass}
@@ -20,12 +21,11 @@ use Rattle.modules.specs.Modules.{Made, cardMade}
 use Rattle.writing.specs.Wrote.{Wrote}
 use Rattle.places.proofs.Words.{words-length}
 use Rattle.measuring.specs.declared.Written.{Written}
-use Rattle.measuring.specs.declared.Written.the-variants.{Full as Overfull, Length}
+use Rattle.measuring.specs.declared.Written.the-variants.{Full, Length}
 use Rattle.measuring.specs.Measured.{Output, output, wholeOutput}
-use Rattle.placing.specs.declared.Placed.{Placed}
 use Rattle.placing.specs.declared.Tally.{Tally}
-use Rattle.placing.specs.declared.Placed.the-variants.{Full, NoRoom, FewWords, Done}
-use Rattle.placing.specs.Placing.{Placing, placing, tallyOf, weighedMade, plainMade, countedFirst, listedAfter, writtenFirst, placed}
+use Rattle.placing.specs.declared.Listed.{Listed}
+use Rattle.placing.specs.Placing.{listed, Placing, placing, tallyOf, weighedMade, plainMade, countedFirst, listedAfter, writtenFirst, placed}
 
 none-laid : (b : Bytes) → lay [] 0 b ≡ []
 unfolding lay
@@ -57,19 +57,19 @@ module _ (pass : Pass) (card root : Bytes) (words list : List ℕ) (out : Bytes)
   entries-are : t .entries ≡ length (M .bytes) / 2 ^ 24
   entries-are = ap (λ (x : Tally). x .entries) (m .0)
 
-  pub full-gives : 0 < t .full → placing (Full (t .full - 1)) out₁ words₁ list ≡ countedFirst pass card root words list out
+  pub full-gives : 0 < t .full → placing (listed (FullTable (t .full - 1)) 0) out₁ words₁ list ≡ countedFirst pass card root words list out
   unfolding countedFirst
   full-gives h = rw (m .1, m .2, full-is) (rw (lt-ltb 0 (M .full) (rw full-is at h)))
 
   module _ (z : t .full ≤ 0) where
-    pub no-room-gives : length out₁ < t .length → placing NoRoom out₁ words₁ list ≡ countedFirst pass card root words list out
+    pub no-room-gives : length out₁ < t .length → placing (listed NoSpace 0) out₁ words₁ list ≡ countedFirst pass card root words list out
     unfolding countedFirst
     no-room-gives h =
         rw (m .1, m .2)
         (rw (le-ltb 0 (M .full) (rw full-is at z), lt-ltb (length out) (length (M .bytes) % 2 ^ 24) (rw (m .1, length-is) at h)))
 
     module _ (l : t .length ≤ length out₁) where
-      pub few-words-gives : length list / 2 < t .entries → placing FewWords out₁ words₁ list ≡ countedFirst pass card root words list out
+      pub few-words-gives : length list / 2 < t .entries → placing (listed ShortList 0) out₁ words₁ list ≡ countedFirst pass card root words list out
       unfolding countedFirst
       few-words-gives h =
           rw (m .1, m .2)
@@ -91,7 +91,7 @@ module _ (pass : Pass) (card root : Bytes) (words list : List ℕ) (out : Bytes)
 
         pub done-gives : t .entries ≤ length list / 2 → {list₂ : List ℕ} {e : ℕ}
             → Laid list 0 (entryWords (cardPlaces card (take (t .length) after))) e list₂
-            → placing (Done (t .length) (t .entries)) after words₂ list₂ ≡ countedFirst pass card root words list out
+            → placing (listed (Shortened (t .length)) (t .entries)) after words₂ list₂ ≡ countedFirst pass card root words list out
         unfolding countedFirst
         done-gives h x =
             rw (x .bytes, w .laid, ap (λ (y : Table). y .words) (w .held-is), made-is, m .1, length-is, entries-are)
@@ -103,14 +103,14 @@ module _ (pass : Pass) (card root : Bytes) (words list : List ℕ) (out : Bytes)
 
 -- what was written, listed
 module _ (card out : Bytes) (list : List ℕ) where
-  pub full-listed : {w : Written} (place : ℕ) → w ≡ Overfull place → placing (Full place) out [] list ≡ listedAfter card w out [] list
+  pub full-listed : {w : Written} (place : ℕ) → w ≡ Full place → placing (listed (FullTable place) 0) out [] list ≡ listedAfter card w out [] list
   full-listed place e = rw e
 
-  pub no-room-listed : {w : Written} (n : ℕ) → w ≡ Length n → length out < n → placing NoRoom out [] list ≡ listedAfter card w out [] list
+  pub no-room-listed : {w : Written} (n : ℕ) → w ≡ Length n → length out < n → placing (listed NoSpace 0) out [] list ≡ listedAfter card w out [] list
   no-room-listed n e l = rw e (rw (lt-ltb (length out) n l))
 
   pub done-listed : {w : Written} (n k : ℕ) → w ≡ Length n → n ≤ length out → (list′ : List ℕ)
-      → Laid list 0 (entryWords (cardPlaces card (take n out))) (2 * k) list′ → placing (Done n k) out [] list′ ≡ listedAfter card w out [] list
+      → Laid list 0 (entryWords (cardPlaces card (take n out))) (2 * k) list′ → placing (listed (Shortened n) k) out [] list′ ≡ listedAfter card w out [] list
   done-listed n k e l list′ x =
       let a = words-length (cardPlaces card (take n out)) in
       let b = x .ends in
@@ -118,19 +118,19 @@ module _ (card out : Bytes) (list : List ℕ) where
       rw e (rw (le-ltb (length out) n l, x .bytes, c))
 
 -- with the words that writing left
-pub listed-words : (card out : Bytes) (words list : List ℕ) (w : Written) (r : Placed) (list′ : List ℕ)
+pub listed-words : (card out : Bytes) (words list : List ℕ) (w : Written) (r : Listed) (list′ : List ℕ)
     → placing r out [] list′ ≡ listedAfter card w out [] list → placing r out words list′ ≡ listedAfter card w out words list
 listed-words card out words list w r list′ e = ap (λ (x : Placing). placing (x .answer) (x .out) words (x .list)) e ∙ same w
   where
     same : (w : Written) → placing (listedAfter card w out [] list .answer) (listedAfter card w out [] list .out) words (listedAfter card w out [] list .list)
         ≡ listedAfter card w out words list
-    same (Overfull place) = refl
+    same (Full place) = refl
     same (Length n) = by-test (ltb (length out) n) (λ t. rw t) (λ t. rw t)
 
 module _ (pass : Pass) (card root out : Bytes) (words list : List ℕ) where
   pub first-gives : (op : Shortening) → op ≡ plainOf pass → length out / 3 ≤ length list → {w : Written} {out′ : Bytes} {words′ : List ℕ}
       → output w out′ words′ ≡ wholeOutput op card root words out
-      → {r : Placed} {list′ : List ℕ} → placing r out′ [] list′ ≡ listedAfter card w out′ [] list
+      → {r : Listed} {list′ : List ℕ} → placing r out′ [] list′ ≡ listedAfter card w out′ [] list
       → placing r out′ words′ list′ ≡ placed pass card root words list out
   unfolding placed writtenFirst
   first-gives op p l {w} {out′} {words′} o {r} {list′} x =

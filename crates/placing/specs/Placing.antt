@@ -6,6 +6,8 @@ use mathlib.Core.List.{List}
 use Prim.Native.Nat.{ℕ, _-_, _/_, _%_, _^_}
 use lib.ListN.{length, take}
 use lib.Dec.{leb, ltb}
+use Rattle.answers.specs.declared.Answer.{Answer}
+use Rattle.answers.specs.declared.Answer.the-variants.{Shortened, FullTable, NoSpace, ShortList}
 use Rattle.wire.specs.Numbers.{Bytes}
 use Rattle.operation.specs.declared.Pass.{Pass}
 use Rattle.operation.specs.Operations.{plainOf, weighedOf}
@@ -15,20 +17,23 @@ use Rattle.places.specs.Places.{Entry, entryWords}
 use Rattle.listing.specs.Lists.{cardPlaces}
 use Rattle.modules.specs.Modules.{Made, cardMade}
 use Rattle.measuring.specs.declared.Written.{Written}
-use Rattle.measuring.specs.declared.Written.the-variants.{Full as Overfull, Length}
+use Rattle.measuring.specs.declared.Written.the-variants.{Full, Length}
 use Rattle.measuring.specs.Measured.{Output, wholeOutput}
 use Rattle.placing.specs.declared.Tally.{Tally}
-use Rattle.placing.specs.declared.Placed.{Placed}
-use Rattle.placing.specs.declared.Placed.the-variants.{Full, NoRoom, FewWords, Done}
+use Rattle.placing.specs.declared.Listed.{Listed}
+
+-- an answer, and how many entries its list has
+abbrev pub listed : Answer → ℕ → Listed
+listed answer entries = record { answer = answer; entries = entries }
 
 -- what is answered, and what the out buffer, the words and the list then hold
 pub record Placing : Type 0 where
-  pub answer : Placed
+  pub answer : Listed
   pub out : Bytes
   pub words : List ℕ
   pub list : List ℕ
 
-abbrev pub placing : Placed → Bytes → (words list : List ℕ) → Placing
+abbrev pub placing : Listed → Bytes → (words list : List ℕ) → Placing
 placing answer out words list = record { answer = answer; out = out; words = words; list = list }
 
 -- a weighed length taken apart: each entry weighs 2 ^ 24, and an output is shorter than that
@@ -37,10 +42,10 @@ tallyOf m = record { full = m .full; length = length (m .bytes) % 2 ^ 24; entrie
 
 -- listed after it was written
 abbrev pub listedAfter : (card : Bytes) → Written → Bytes → (words list : List ℕ) → Placing
-listedAfter card (Overfull place) out words list = placing (Full place) out words list
+listedAfter card (Full place) out words list = placing (listed (FullTable place) 0) out words list
 listedAfter card (Length n) out words list =
     let es : List Entry = cardPlaces card (take n out) in
-    cond (ltb (length out) n) (placing NoRoom out words list) (placing (Done n (length es)) out words (lay list 0 (entryWords es)))
+    cond (ltb (length out) n) (placing (listed NoSpace 0) out words list) (placing (listed (Shortened n) (length es)) out words (lay list 0 (entryWords es)))
 
 module _ (pass : Pass) (card root : Bytes) where
   unfoldable pub weighedMade : List ℕ → Made
@@ -56,10 +61,10 @@ module _ (pass : Pass) (card root : Bytes) where
       let w : Made = plainMade words in
       let t : Tally = tallyOf m in
       let after : Bytes = lay out 0 (w .bytes) in
-      cond (ltb 0 (t .full)) (placing (Full (t .full - 1)) out (m .held .words) list)
-      (cond (ltb (length out) (t .length)) (placing NoRoom out (m .held .words) list)
-      (cond (ltb (length list / 2) (t .entries)) (placing FewWords out (m .held .words) list)
-      (placing (Done (t .length) (t .entries)) after (w .held .words) (lay list 0 (entryWords (cardPlaces card (take (t .length) after)))))))
+      cond (ltb 0 (t .full)) (placing (listed (FullTable (t .full - 1)) 0) out (m .held .words) list)
+      (cond (ltb (length out) (t .length)) (placing (listed NoSpace 0) out (m .held .words) list)
+      (cond (ltb (length list / 2) (t .entries)) (placing (listed ShortList 0) out (m .held .words) list)
+      (placing (listed (Shortened (t .length)) (t .entries)) after (w .held .words) (lay list 0 (entryWords (cardPlaces card (take (t .length) after)))))))
 
   unfoldable pub writtenFirst : (words list : List ℕ) → Bytes → Placing
   writtenFirst words list out =

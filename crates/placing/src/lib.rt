@@ -1,6 +1,7 @@
 // The output with the list of its changed points. Where the list surely suffices, the output is written and then listed. Else the walk that writes measures
 // first, over an empty part of the out buffer, by the pass that gives each changed point a weight: its length says how long the output is and how many
 // entries there are. The list is filled once the output is written.
+use answers::Answer;
 use measuring::Written;
 use operation::Pass;
 ghost use mathlib.Core.Path.{_≡_};
@@ -14,14 +15,10 @@ pub struct Tally {
     pub entries: usize,
 }
 
-pub enum Placed {
-    // the place of the first module whose table is full
-    Full(usize),
-    NoRoom,
-    // fewer than two words for each entry
-    FewWords,
-    // how long the output is, and how many entries there are
-    Done(usize, usize),
+pub struct Listed {
+    pub answer: Answer,
+    // how many entries the list has, two words each; 0 where the answer is a refusal
+    pub entries: usize,
 }
 
 // Leaves the out buffer.
@@ -53,40 +50,61 @@ fn count_first(
     out: &mut [u8],
     work: &mut [u32],
     list: &mut [u32],
-) -> Placed
+) -> Listed
     ensures { λ r. ⌜ placing r (now (out .exit)) (now (work .exit)) (now (list .exit))
         ≡ countedFirst pass (now (card .entry)) (now (root .entry)) (now (work .entry)) (now (list .entry)) (now (out .entry)) ⌝ }
 {
     let t = measure(pass, card, root, out, work);
     let full = t.full;
     if 0 < full {
-        return Placed::Full(full - 1);
+        return Listed {
+            answer: Answer::FullTable(full - 1),
+            entries: 0,
+        };
     }
     let n = t.length;
     if out.len() < n {
-        return Placed::NoRoom;
+        return Listed {
+            answer: Answer::NoSpace,
+            entries: 0,
+        };
     }
     let k = t.entries;
     if list.len() / 2 < k {
-        return Placed::FewWords;
+        return Listed {
+            answer: Answer::ShortList,
+            entries: 0,
+        };
     }
     writing::write_card(operation::plain(pass), card, root, out, work, 65537, 0);
     listing::list_places(card, &out[..n], list);
-    Placed::Done(n, k)
+    Listed {
+        answer: Answer::Shortened(n),
+        entries: k,
+    }
 }
 
 // What was written, listed.
-fn list_after(w: Written, card: &[u8], out: &[u8], list: &mut [u32]) -> Placed
+fn list_after(w: Written, card: &[u8], out: &[u8], list: &mut [u32]) -> Listed
     ensures { λ r. ⌜ placing r (now (out .entry)) [] (now (list .exit)) ≡ listedAfter (now (card .entry)) w (now (out .entry)) [] (now (list .entry)) ⌝ }
 {
     match w {
-        Written::Full(place) => Placed::Full(place),
+        Written::Full(place) => Listed {
+            answer: Answer::FullTable(place),
+            entries: 0,
+        },
         Written::Length(n) => {
             if out.len() < n {
-                return Placed::NoRoom;
+                return Listed {
+                    answer: Answer::NoSpace,
+                    entries: 0,
+                };
             }
             let k = listing::list_places(card, &out[..n], list);
-            Placed::Done(n, k)
+            Listed {
+                answer: Answer::Shortened(n),
+                entries: k,
+            }
         }
     }
 }
@@ -98,7 +116,7 @@ pub fn write_places(
     out: &mut [u8],
     work: &mut [u32],
     list: &mut [u32],
-) -> Placed
+) -> Listed
     ensures { λ r. ⌜ placing r (now (out .exit)) (now (work .exit)) (now (list .exit))
         ≡ placed pass (now (card .entry)) (now (root .entry)) (now (work .entry)) (now (list .entry)) (now (out .entry)) ⌝ }
 {

@@ -1,4 +1,5 @@
--- A worked module, by computation: the order in which a visitor meets its types and expressions, and how often a replacer replaces each. Assumes nothing.
+-- A worked module, by computation: the order in which a visitor meets its types and expressions, and how often a replacer replaces each. And the values that
+-- operations have: the prefix of a nested module, a table's limit. Assumes nothing.
 use mathlib.Core.Path.{_≡_, refl}
 use mathlib.Core.List.{List, [], _∷_, _++_, map}
 use mathlib.Core.Bool.{Bool}
@@ -165,7 +166,7 @@ pub limits : let words : List ℕ = 2048 ∷ 2051 ∷ 2052 ∷ 2800 ∷ 4095 ∷
     (map (upstream .mostPairs) words ≡ 512 ∷ 512 ∷ 513 ∷ 700 ∷ 1023 ∷ 1024 ∷ 1024 ∷ 1024 ∷ []) × (map (straight .mostPairs) words ≡ map (upstream .mostPairs) words)
 limits = (refl, refl)
 
--- of any words: four of them for each pair, no more than 1,024 pairs, and below that no word left that would do for one more
+-- of any words: four of them for each pair, no more than 1,024 pairs, and below that too few words left for one more
 pub limit-is : (again : Bool) (words : ℕ) → let most : ℕ = shortening again .mostPairs words in
     (4 * most ≤ words) × (most ≤ 1024) × (most < 1024 → words < 4 * (most + 1))
 limit-is again words = (omega arith, omega arith, λ l. omega (arith, l))

@@ -23,11 +23,10 @@ use Rattle.operation.specs.Passes.{repeats, asked}
 use Rattle.work.specs.Taken.{forTable}
 use Rattle.work.proofs.Lent.{most, words-all}
 use Rattle.chains.specs.Chains.{room}
-use Rattle.placing.specs.declared.Placed.{Placed}
+use Rattle.placing.specs.declared.Listed.{Listed}
 use Rattle.placing.specs.Placing.{placing, placed}
 use Rattle.placing.proofs.Sound.{Whole, Places, FullAt, Result, placed-sound}
-use Rattle.shortening_places.specs.declared.Listed.{Listed}
-use Rattle.shortening_places.specs.Placed.{listedOf, Promise, Answered, Alone}
+use Rattle.shortening_places.specs.Placed.{Promise, Answered, Alone}
 
 -- what is answered is the definition's, so it keeps the promise
 promised : (pass : Pass) (card root out : Bytes) (work list : List ℕ) (r : Listed) (out′ : Bytes) (work′ list′ : List ℕ) → ((i : ℕ) → getD card i 0 < 256)
@@ -47,12 +46,12 @@ promised pass card root out work list r out′ work′ list′ bc br e =
 module _ (pass : Pass) (card root out : Bytes) (work list : List ℕ) (bc : (i : ℕ) → getD card i 0 < 256) (br : (i : ℕ) → getD root i 0 < 256)
     (is-sound : admitted (asked pass) card root (length work) ≡ Sound) (words : List ℕ)
     (enough : room words ≡ upstream .mostPairs (length work))
-    (p : Placed) (out′ : Bytes) (words′ list′ : List ℕ) (o : placing p out′ words′ list′ ≡ placed pass card root words list out) where
-  result : Result pass card root (length work) is-sound bc br words list out (placing p out′ words′ list′)
+    (r : Listed) (out′ : Bytes) (words′ list′ : List ℕ) (o : placing r out′ words′ list′ ≡ placed pass card root words list out) where
+  result : Result pass card root (length work) is-sound bc br words list out (placing r out′ words′ list′)
   result = rw o (placed-sound pass card root (length work) is-sound bc br words list out)
 
   is-listing : (x : Option ℕ) → FullAt pass card root (length work) is-sound bc br (upstream .mostPairs (length work)) ≡ x
-      → listing (listedOf p .answer) (listedOf p .entries) out′ (replicate (length work) 0) list′ ≡ shortenListing (asked pass) card root out work list
+      → listing (r .answer) (r .entries) out′ (replicate (length work) 0) list′ ≡ shortenListing (asked pass) card root out work list
   unfolding shortenListing shorten
   is-listing none q =
       rw (result .answer-is, result .out-is, result .list-is, enough, is-sound, q)
@@ -60,7 +59,7 @@ module _ (pass : Pass) (card root out : Bytes) (work list : List ℕ) (bc : (i :
       (λ t. by-test (ltb (length list) (2 * length (Places pass card root (length work) is-sound bc br))) (λ u. rw (t, u)) (λ u. rw (t, u))))
   is-listing (some place) q = rw (result .answer-is, result .out-is, result .list-is, enough, is-sound, q)
 
-  pub made : listing (listedOf p .answer) (listedOf p .entries) out′ (replicate (length work) 0) list′ ≡ shortenListing (asked pass) card root out work list
+  pub made : listing (r .answer) (r .entries) out′ (replicate (length work) 0) list′ ≡ shortenListing (asked pass) card root out work list
   made = is-listing (FullAt pass card root (length work) is-sound bc br (upstream .mostPairs (length work))) refl
 
 module _ (pass : Pass) (card root out : Bytes) (work list : List ℕ) (bc : (i : ℕ) → getD card i 0 < 256) (br : (i : ℕ) → getD root i 0 < 256)
@@ -76,16 +75,16 @@ module _ (pass : Pass) (card root out : Bytes) (work list : List ℕ) (bc : (i :
     is-sound : admitted (asked pass) card root (length work) ≡ Sound
     is-sound = admitted-alike (repeats pass) card root (length work) ∙ sym e ∙ h
 
-    module _ (p : Placed) (out′ : Bytes) (words list′ : List ℕ) (o : placing p out′ words list′ ≡ placed pass card root (take used work) list out) where
+    module _ (r : Listed) (out′ : Bytes) (words list′ : List ℕ) (o : placing r out′ words list′ ≡ placed pass card root (take used work) list out) where
       words-long : length words ≡ length (take used work)
-      words-long = result pass card root out work list bc br is-sound (take used work) (most work used u) p out′ words list′ o .words-long
+      words-long = result pass card root out work list bc br is-sound (take used work) (most work used u) r out′ words list′ o .words-long
 
-      pub kept : (work′ : List ℕ) → work′ ≡ replicate (length (words ++ drop used work)) 0 → (r : Listed) → r ≡ listedOf p
+      pub kept : (work′ : List ℕ) → work′ ≡ replicate (length (words ++ drop used work)) 0
           → Promise pass card root out work list r out′ work′ list′
-      kept work′ z r f =
+      kept work′ z =
           promised pass card root out work list r out′ work′ list′ bc br
-          (rw (f, z ∙ ap (λ (n : ℕ). replicate n 0) (words-all work used u words words-long))
-          (made pass card root out work list bc br is-sound (take used work) (most work used u) p out′ words list′ o))
+          (rw (z ∙ ap (λ (n : ℕ). replicate n 0) (words-all work used u words words-long))
+          (made pass card root out work list bc br is-sound (take used work) (most work used u) r out′ words list′ o))
 
 -- what is promised of all that is lent is promised of all but the work words
 pub answered : {pass : Pass} {card root out : Bytes} {work list : List ℕ} {r : Listed} {out′ : Bytes} {work′ list′ : List ℕ}
@@ -112,13 +111,9 @@ module _ (pass : Pass) (card root out : Bytes) (list : List ℕ) (bc : (i : ℕ)
   alone-refused a h =
       answered (refused pass card root out own-words list bc br v e a h)
 
-  pub alone-kept : v ≡ Sound → (p : Placed) (out′ : Bytes) (words list′ : List ℕ) → placing p out′ words list′ ≡ placed pass card root own-words list out
-      → (r : Listed) → r ≡ listedOf p → Alone pass card root out list r out′ list′
-  alone-kept h p out′ words list′ o r f =
+  pub alone-kept : v ≡ Sound → (r : Listed) (out′ : Bytes) (words list′ : List ℕ) → placing r out′ words list′ ≡ placed pass card root own-words list out
+      → Alone pass card root out list r out′ list′
+  alone-kept h r out′ words list′ o =
       answered
       (promised pass card root out own-words list r out′ own-words list′ bc br
-      (rw f (made pass card root out own-words list bc br (admitted-alike (repeats pass) card root 2048 ∙ sym e ∙ h) own-words refl p out′ words list′ o)))
-
--- the answer, case by case
-pub listed-same : {p q : Placed} → p ≡ q → listedOf q ≡ listedOf p
-listed-same e = ap listedOf (sym e)
+      (made pass card root out own-words list bc br (admitted-alike (repeats pass) card root 2048 ∙ sym e ∙ h) own-words refl r out′ words list′ o))

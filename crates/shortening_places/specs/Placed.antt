@@ -5,8 +5,7 @@ use mathlib.Core.Path.{_≡_}
 use mathlib.Core.List.{List}
 use Prim.Native.Nat.{ℕ, _*_, _≤_}
 use lib.ListN.{length, take, replicate}
-use Rattle.answers.specs.declared.Answer.{Answer}
-use Rattle.answers.specs.declared.Answer.the-variants.{Shortened, FullTable, NoSpace, ShortList}
+use Rattle.answers.specs.declared.Answer.the-variants.{Shortened}
 use Rattle.wire.specs.Numbers.{Bytes}
 use Rattle.size.specs.Bound.{times}
 use Rattle.points.specs.Points.{NamesHold}
@@ -14,19 +13,7 @@ use Rattle.places.specs.Listing.{Listing, listing, shortenListing}
 use Rattle.places.specs.Spots.{ListExact}
 use Rattle.operation.specs.declared.Pass.{Pass}
 use Rattle.operation.specs.Passes.{asked}
-use Rattle.placing.specs.declared.Placed.{Placed}
-use Rattle.placing.specs.declared.Placed.the-variants.{Full, NoRoom, FewWords, Done}
-use Rattle.shortening_places.specs.declared.Listed.{Listed}
-
-abbrev pub listed : Answer → ℕ → Listed
-listed answer entries = record { answer = answer; entries = entries }
-
--- the answer to what was written
-abbrev pub listedOf : Placed → Listed
-listedOf (Full place) = listed (FullTable place) 0
-listedOf NoRoom = listed NoSpace 0
-listedOf FewWords = listed ShortList 0
-listedOf (Done length entries) = listed (Shortened length) entries
+use Rattle.placing.specs.declared.Listed.{Listed}
 
 pub record Promise (pass : Pass) (card root out : Bytes) (work list : List ℕ) (r : Listed) (out′ : Bytes) (work′ list′ : List ℕ) : Type 0 where
   -- demands 1 and 2: whatever is lent, the answer, the number of entries, the out bytes, the work words and the list are the definition's

@@ -2,38 +2,8 @@
 use answers::Answer;
 use answers::Verdict;
 use operation::Pass;
-use placing::Placed;
-ghost use mathlib.Core.Path.{_≡_};
-ghost use Rattle.shortening_places.specs.Placed.{listedOf, Promise, Alone};
-
-pub struct Listed {
-    pub answer: Answer,
-    // how many entries the list has, two words each; 0 where the answer is a refusal
-    pub entries: usize,
-}
-
-fn listed_of(p: Placed) -> Listed
-    ensures { λ r. ⌜ r ≡ listedOf p ⌝ }
-{
-    match p {
-        Placed::Full(place) => Listed {
-            answer: Answer::FullTable(place),
-            entries: 0,
-        },
-        Placed::NoRoom => Listed {
-            answer: Answer::NoSpace,
-            entries: 0,
-        },
-        Placed::FewWords => Listed {
-            answer: Answer::ShortList,
-            entries: 0,
-        },
-        Placed::Done(n, k) => Listed {
-            answer: Answer::Shortened(n),
-            entries: k,
-        },
-    }
-}
+use placing::Listed;
+ghost use Rattle.shortening_places.specs.Placed.{Promise, Alone};
 
 // A quarter as many pairs as there are work words may stand in a table, and at most 1024.
 pub fn shorten_places(
@@ -58,9 +28,9 @@ pub fn shorten_places(
         }
     }
     let used = work::for_table(work.len());
-    let p = placing::write_places(pass, card, root, out, &mut work[..used], list);
+    let r = placing::write_places(pass, card, root, out, &mut work[..used], list);
     work::clear(work);
-    listed_of(p)
+    r
 }
 
 // With work words of its own: what `shorten_places` answers with 2048. They are made once the card is admitted, and nobody sees them after the call.
@@ -84,5 +54,5 @@ pub fn shorten_places_alone(
         }
     }
     let mut work: [u32; 2048] = [0; 2048];
-    listed_of(placing::write_places(pass, card, root, out, &mut work, list))
+    placing::write_places(pass, card, root, out, &mut work, list)
 }

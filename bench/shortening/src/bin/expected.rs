@@ -2,7 +2,7 @@
 //! ROOT CARD WORDS.
 use std::io::{self, Read, Write};
 use yardstick::tree::{bytes, is_runtime, outermost, Path};
-use yardstick::{text, Refusal};
+use yardstick::{text, Refusal, WORDS};
 
 fn case(line: &str) -> Option<(Vec<u8>, Vec<u8>, usize)> {
     let mut fields = line.split(' ');
@@ -16,7 +16,8 @@ fn case(line: &str) -> Option<(Vec<u8>, Vec<u8>, usize)> {
 }
 
 fn lines(card: &[u8], root: &[u8], words: usize) -> Result<String, Refusal> {
-    let mapping = outermost(card, root, words)?;
+    // The program collects in no more words than these.
+    let mapping = outermost(card, root, words.min(WORDS))?;
     let shown = |base: &Path| {
         if *base == *mapping.prefix {
             "prefix".to_string()

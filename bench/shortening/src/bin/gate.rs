@@ -4,6 +4,7 @@ use std::env;
 use std::fs;
 use std::ops::RangeInclusive;
 use std::process::ExitCode;
+use yardstick::cards::CRATE;
 use yardstick::stated::{self, Stated};
 use yardstick::text::{self, digits, Vector};
 use yardstick::{own, tree, walk, Operation, LANDED, MOST_CARD, MOST_ENTRIES, MOST_TIMES, WORDS};
@@ -14,8 +15,6 @@ gate batch VECTORS FOLDER  every vector of the folder VECTORS with its latest an
                            requests that are not answered yet are left out
 gate apply FOLDER          the four cases of TestApply
 gate shorten FOLDER        a card with as many names as its words have room for";
-
-const CRATE: [u8; 6] = [2, 0, 0, 0, 0x11, 0];
 
 const NO_CASE: &str = "no case: write ROOT CARD OUTLEN WORKLEN in less than 262144 characters, \
 the first two in hexadecimal, - for no bytes";

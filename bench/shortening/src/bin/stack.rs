@@ -30,7 +30,7 @@ fn used(operation: Operation, card: &[u8], out: &mut [u8], words: Option<&mut [u
             std::ptr::write_volatile((area + i) as *mut u8, PAINT);
         }
     }
-    let answer = console::shorten(operation, black_box(card), &[2, 0, 0, 0, 0x11, 0], out, words);
+    let answer = console::shorten(operation, black_box(card), &cards::CRATE, out, words);
     black_box(answer).expect("a card that is accepted");
     let kept = (0..PAINTED)
         .take_while(|i| unsafe { std::ptr::read_volatile((area + i) as *const u8) } == PAINT)

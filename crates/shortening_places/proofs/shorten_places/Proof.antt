@@ -45,9 +45,6 @@ write-places-requires c κs = search needs
 clear-requires : tie.Need-clear-requires
 clear-requires c κs = search needs
 
-listed-of-requires : tie.Need-listed-of-requires
-listed-of-requires c κs = search needs
-
 same-length : tie.Need-same-length
 same-length c = search needs
 
@@ -59,22 +56,21 @@ same-length-3 c = search needs
 
 returns-2 : tie.Need-returns-2
 returns-2 c =
-    let listed-of = c .listed-of in
-    let clear = c .before .before .before .clear in
-    let write-places = c .before .before .before .before .before .before .before .before .before .before .before .write-places in
-    let enum-told = c .before .before .before .before .before .before .before .before .before .before .before .before .before .before .before .before .enum-told in
-    let admit = c .before .before .before .before .before .before .before .before .before .before .before .before .before .before .before .before .before
+    let clear = c .before .before .clear in
+    let write-places = c .before .before .before .before .before .before .before .before .before .before .write-places in
+    let enum-told = c .before .before .before .before .before .before .before .before .before .before .before .before .before .before .before .enum-told in
+    let admit = c .before .before .before .before .before .before .before .before .before .before .before .before .before .before .before .before
     .before .admit in
-    let shared-slice-known2 = c .before .before .before .before .before .before .before .before .before .before .before .before .before .before .before
+    let shared-slice-known2 = c .before .before .before .before .before .before .before .before .before .before .before .before .before .before
     .before .before .before .before .before .before .before .shared-slice-known2 in
-    let shared-slice-known = c .before .before .before .before .before .before .before .before .before .before .before .before .before .before .before .before
+    let shared-slice-known = c .before .before .before .before .before .before .before .before .before .before .before .before .before .before .before
     .before .before .before .before .before .before .before .shared-slice-known in
-    let args = c .before .before .before .before .before .before .before .before .before .before .before .before .before .before .before .before .before
+    let args = c .before .before .before .before .before .before .before .before .before .before .before .before .before .before .before .before
     .before .before .before .before .before .before .before .args in
-    let for-table = c .before .before .before .before .before .before .before .before .before .before .before .before .before .before .before .for-table in
+    let for-table = c .before .before .before .before .before .before .before .before .before .before .before .before .before .before .for-table in
     kept (args .pass) (args .card .now) (args .root .now) (args .out .now) (args .work .now) (args .list .now) (λ i. shared-slice-known .given i .fits)
     (λ i. shared-slice-known2 .given i .fits) _ (admit .ensures) (enum-told .given .1) _ (for-table .ensures) _ _ _ _
-    (write-places .ensures) _ (clear .ensures) _ (listed-of .ensures)
+    (write-places .ensures) _ (clear .ensures)
 
 pub shorten-places-spec : {M : Type 1} → statement M
 shorten-places-spec =
@@ -89,7 +85,6 @@ shorten-places-spec =
     slice-aggregate-write-places
     write-places-requires
     clear-requires
-    listed-of-requires
     same-length
     same-length-2
     same-length-3

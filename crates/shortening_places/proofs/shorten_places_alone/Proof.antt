@@ -29,9 +29,6 @@ slice-aggregate-write-places c = search needs
 write-places-requires : tie.Need-write-places-requires
 write-places-requires c κs = search needs
 
-listed-of-requires : tie.Need-listed-of-requires
-listed-of-requires c κs = search needs
-
 same-length : tie.Need-same-length
 same-length c = search needs
 
@@ -40,18 +37,17 @@ same-length-2 c = search needs
 
 returns-2 : tie.Need-returns-2
 returns-2 c =
-    let listed-of = c .listed-of in
-    let write-places = c .before .before .before .before .before .before .write-places in
-    let enum-told = c .before .before .before .before .before .before .before .before .before .before .enum-told in
-    let admit = c .before .before .before .before .before .before .before .before .before .before .before .before .admit in
-    let shared-slice-known2 = c .before .before .before .before .before .before .before .before .before .before .before .before .before .before
+    let write-places = c .before .before .before .before .before .write-places in
+    let enum-told = c .before .before .before .before .before .before .before .before .before .enum-told in
+    let admit = c .before .before .before .before .before .before .before .before .before .before .before .admit in
+    let shared-slice-known2 = c .before .before .before .before .before .before .before .before .before .before .before .before .before
     .before .shared-slice-known2 in
-    let shared-slice-known = c .before .before .before .before .before .before .before .before .before .before .before .before .before .before .before
+    let shared-slice-known = c .before .before .before .before .before .before .before .before .before .before .before .before .before .before
     .before .shared-slice-known in
-    let args = c .before .before .before .before .before .before .before .before .before .before .before .before .before .before .before .before
+    let args = c .before .before .before .before .before .before .before .before .before .before .before .before .before .before .before
     .before .args in
     alone-kept (args .pass) (args .card .now) (args .root .now) (args .out .now) (args .list .now) (λ i. shared-slice-known .given i .fits)
-    (λ i. shared-slice-known2 .given i .fits) _ (admit .ensures) (enum-told .given .1) _ _ _ _ (write-places .ensures) _ (listed-of .ensures)
+    (λ i. shared-slice-known2 .given i .fits) _ (admit .ensures) (enum-told .given .1) _ _ _ _ (write-places .ensures)
 
 pub shorten-places-alone-spec : {M : Type 1} → statement M
 shorten-places-alone-spec =
@@ -63,7 +59,6 @@ shorten-places-alone-spec =
     returns
     slice-aggregate-write-places
     write-places-requires
-    listed-of-requires
     same-length
     same-length-2
     returns-2)

@@ -14,6 +14,7 @@ fn main() {
         println!("cargo::error=the proved library is not built: run `rt staticlib console` in the root of the repository, then this again");
         return;
     }
+    println!("cargo::rustc-env=VEGASHOL_FOLDER={}", folder.display());
     println!("cargo::rustc-link-search=native={}", folder.display());
     println!("cargo::rustc-link-lib=static:-bundle=console");
 }

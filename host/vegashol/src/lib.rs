@@ -146,7 +146,7 @@ pub fn shorten_work<'o>(
 /// let (mut out, mut list) = ([0; 200], [0; 70]);
 /// let listed = vegashol::shorten_places(card, vegashol::CRATE, &mut out, &mut list)?;
 /// let places: Vec<Place> = listed.places.iter().collect();
-/// assert_eq!(places, [Place { offset: 31, mark: Mark::Use }, Place { offset: 83, mark: Mark::Type }]);
+/// assert_eq!(places, [Place { offset: 31, mark: Mark::Use }, Place { offset: 87, mark: Mark::Type }]);
 /// # Ok::<(), vegashol::Refusal>(())
 /// ```
 pub fn shorten_places<'o>(

@@ -3,8 +3,7 @@ mod records;
 
 use records::card;
 use std::{
-    collections::BTreeSet,
-    env, fs,
+    env,
     io::Write,
     path::{Path, PathBuf},
     process::{Command, Output, Stdio},
@@ -133,18 +132,4 @@ fn the_operations_differ_on_the_card() {
     assert_eq!(old, [Mark::Use, Mark::Use, Mark::Type, Mark::Expr]);
     let straight = marks(vegashol::straight_places(&card(), CRATE, &mut out, &mut list).unwrap());
     assert_eq!(straight, [Mark::Use, Mark::Type, Mark::Expr]);
-}
-
-#[test]
-fn header_and_crate_declare_the_same_calls() {
-    let names = |file: &str| -> BTreeSet<String> {
-        let text = fs::read_to_string(folder().join(file)).unwrap();
-        let ahead = |part: &str| {
-            part.rsplit(|c: char| !(c.is_ascii_alphanumeric() || c == '_')).next().map(String::from)
-        };
-        text.split('(').filter_map(ahead).filter(|name| name.starts_with("vegashol_")).collect()
-    };
-    let header = names("../include/vegashol.h");
-    assert_eq!(header.len(), 8);
-    assert_eq!(header, names("src/calls.rs"));
 }

@@ -80,28 +80,35 @@ fn listed<'o>(packed: u64, out: &'o [u8], list: &'o [u32], entries: u32) -> Resu
     Ok(Listed { output: &out[..length], places: Places::new(&list[..2 * entries as usize]) })
 }
 
+/// An exported call, with each slice as its pointer and its length.
+macro_rules! call {
+    ($name:ident, $card:ident, $root:ident $(, $lent:ident)* $(; $entries:ident)?) => {
+        // Each pointer is its slice's, and what is written is borrowed by the call alone.
+        unsafe {
+            calls::$name(
+                $card.as_ptr(),
+                $card.len(),
+                $root.as_ptr(),
+                $root.len()
+                $(, $lent.as_mut_ptr(), $lent.len())*
+                $(, &mut $entries)?
+            )
+        }
+    };
+}
+
 /// Shortens `card`, whose outermost module stands in `root`, into `out`.
 ///
 /// Refused by every reason but short work and short list. An out buffer of [`MOST_TIMES`] times the card's length always has room.
 /// A module may have 512 pairs of a name and a path that it stands under.
 pub fn shorten<'o>(card: &[u8], root: &[u8], out: &'o mut [u8]) -> Result<Shortened<'o>, Refusal> {
-    // Here and below: each pointer is its slice's, and a slice that is written is borrowed by the call alone.
-    let packed = unsafe {
-        calls::vegashol_shorten(
-            card.as_ptr(),
-            card.len(),
-            root.as_ptr(),
-            root.len(),
-            out.as_mut_ptr(),
-            out.len(),
-        )
-    };
+    let packed = call!(vegashol_shorten, card, root, out);
     shortened(packed, out)
 }
 
 /// [`shorten`] with lent work words, [`LEAST_WORK`] or more.
 ///
-/// A module may have as many pairs as there are work words, by four, and at most 1,024. What the words hold before does not matter. After a call they
+/// A module may have a quarter as many pairs as there are work words, and at most 1,024. What the words hold before does not matter. After a call they
 /// are all zero, or, where the card was refused by short work, long card, bad root or in reading, as they were.
 ///
 /// ```
@@ -118,18 +125,7 @@ pub fn shorten_work<'o>(
     out: &'o mut [u8],
     work: &mut [u32],
 ) -> Result<Shortened<'o>, Refusal> {
-    let packed = unsafe {
-        calls::vegashol_shorten_work(
-            card.as_ptr(),
-            card.len(),
-            root.as_ptr(),
-            root.len(),
-            out.as_mut_ptr(),
-            out.len(),
-            work.as_mut_ptr(),
-            work.len(),
-        )
-    };
+    let packed = call!(vegashol_shorten_work, card, root, out, work);
     shortened(packed, out)
 }
 
@@ -156,19 +152,7 @@ pub fn shorten_places<'o>(
     list: &'o mut [u32],
 ) -> Result<Listed<'o>, Refusal> {
     let mut entries = 0;
-    let packed = unsafe {
-        calls::vegashol_shorten_places(
-            card.as_ptr(),
-            card.len(),
-            root.as_ptr(),
-            root.len(),
-            out.as_mut_ptr(),
-            out.len(),
-            list.as_mut_ptr(),
-            list.len(),
-            &mut entries,
-        )
-    };
+    let packed = call!(vegashol_shorten_places, card, root, out, list; entries);
     listed(packed, out, list, entries)
 }
 
@@ -181,21 +165,7 @@ pub fn shorten_places_work<'o>(
     list: &'o mut [u32],
 ) -> Result<Listed<'o>, Refusal> {
     let mut entries = 0;
-    let packed = unsafe {
-        calls::vegashol_shorten_places_work(
-            card.as_ptr(),
-            card.len(),
-            root.as_ptr(),
-            root.len(),
-            out.as_mut_ptr(),
-            out.len(),
-            work.as_mut_ptr(),
-            work.len(),
-            list.as_mut_ptr(),
-            list.len(),
-            &mut entries,
-        )
-    };
+    let packed = call!(vegashol_shorten_places_work, card, root, out, work, list; entries);
     listed(packed, out, list, entries)
 }
 
@@ -210,16 +180,7 @@ pub fn shorten_places_work<'o>(
 /// # Ok::<(), vegashol::Refusal>(())
 /// ```
 pub fn straight<'o>(card: &[u8], root: &[u8], out: &'o mut [u8]) -> Result<Shortened<'o>, Refusal> {
-    let packed = unsafe {
-        calls::vegashol_straight(
-            card.as_ptr(),
-            card.len(),
-            root.as_ptr(),
-            root.len(),
-            out.as_mut_ptr(),
-            out.len(),
-        )
-    };
+    let packed = call!(vegashol_straight, card, root, out);
     shortened(packed, out)
 }
 
@@ -230,18 +191,7 @@ pub fn straight_work<'o>(
     out: &'o mut [u8],
     work: &mut [u32],
 ) -> Result<Shortened<'o>, Refusal> {
-    let packed = unsafe {
-        calls::vegashol_straight_work(
-            card.as_ptr(),
-            card.len(),
-            root.as_ptr(),
-            root.len(),
-            out.as_mut_ptr(),
-            out.len(),
-            work.as_mut_ptr(),
-            work.len(),
-        )
-    };
+    let packed = call!(vegashol_straight_work, card, root, out, work);
     shortened(packed, out)
 }
 
@@ -253,19 +203,7 @@ pub fn straight_places<'o>(
     list: &'o mut [u32],
 ) -> Result<Listed<'o>, Refusal> {
     let mut entries = 0;
-    let packed = unsafe {
-        calls::vegashol_straight_places(
-            card.as_ptr(),
-            card.len(),
-            root.as_ptr(),
-            root.len(),
-            out.as_mut_ptr(),
-            out.len(),
-            list.as_mut_ptr(),
-            list.len(),
-            &mut entries,
-        )
-    };
+    let packed = call!(vegashol_straight_places, card, root, out, list; entries);
     listed(packed, out, list, entries)
 }
 
@@ -278,20 +216,6 @@ pub fn straight_places_work<'o>(
     list: &'o mut [u32],
 ) -> Result<Listed<'o>, Refusal> {
     let mut entries = 0;
-    let packed = unsafe {
-        calls::vegashol_straight_places_work(
-            card.as_ptr(),
-            card.len(),
-            root.as_ptr(),
-            root.len(),
-            out.as_mut_ptr(),
-            out.len(),
-            work.as_mut_ptr(),
-            work.len(),
-            list.as_mut_ptr(),
-            list.len(),
-            &mut entries,
-        )
-    };
+    let packed = call!(vegashol_straight_places_work, card, root, out, work, list; entries);
     listed(packed, out, list, entries)
 }

@@ -1,13 +1,13 @@
 //! Writes the cases of the program test_collecting, one to a line: ROOT CARD WORDS. They are the cards
-//! of own.rs and as many vectors of document 01 as fit, in their order, and last lines that are no
+//! of `compare::own` and as many vectors of document 01 as fit, in their order, and last lines that are no
 //! cases.
+use compare::own;
+use compare::text::{self, digits, Vector};
+use compare::tree::outermost;
 use std::cmp::Reverse;
 use std::collections::{BTreeMap, HashSet};
 use std::env;
 use std::process::ExitCode;
-use yardstick::own;
-use yardstick::text::{self, digits, Vector};
-use yardstick::tree::outermost;
 
 /// The most bytes of all cases.
 const ROOM: usize = 1_195_000;

@@ -396,6 +396,10 @@ fn number<T: std::str::FromStr>(digits: &str) -> Result<T, String> {
 /// Whether nothing differs, or what is wrong with what was asked.
 fn asked(words: &[&str]) -> Result<bool, String> {
     match *words {
+        ["--help"] => {
+            println!("{USAGE}");
+            Ok(true)
+        }
         ["vectors", folder] => Ok(agree_on(&vectors_of(Some(folder))?)),
         ["random", ref rest @ ..] if rest.len() <= 2 => {
             let cards = rest.first().map_or(Ok(CARDS), |n| number(n))?;
@@ -413,7 +417,7 @@ fn asked(words: &[&str]) -> Result<bool, String> {
                     ["--vectors", name] => folder = Some(name),
                     ["--cards", n] => cards = number(n)?,
                     ["--seed", n] => seed = number(n)?,
-                    _ => return Err(USAGE.to_string()),
+                    _ => return Err("no such arguments; bench --help says which there are".to_string()),
                 }
             }
             run(folder, cards, seed)
@@ -422,12 +426,13 @@ fn asked(words: &[&str]) -> Result<bool, String> {
 }
 
 fn main() -> ExitCode {
-    let words: Vec<String> = std::env::args().skip(1).collect();
-    match asked(&words.iter().map(String::as_str).collect::<Vec<_>>()) {
+    let words: Vec<_> = std::env::args_os().skip(1).collect();
+    let words: Vec<_> = words.iter().map(|word| word.to_string_lossy()).collect();
+    match asked(&words.iter().map(|word| &**word).collect::<Vec<_>>()) {
         Ok(true) => ExitCode::SUCCESS,
         Ok(false) => ExitCode::FAILURE,
         Err(e) => {
-            eprintln!("{e}");
+            eprintln!("bench: {e}");
             ExitCode::from(2)
         }
     }

@@ -312,18 +312,23 @@ fn shorten(folder: &str) -> Result<(), String> {
 }
 
 fn main() -> ExitCode {
-    let words: Vec<String> = env::args().skip(1).collect();
-    let words: Vec<&str> = words.iter().map(String::as_str).collect();
+    let words: Vec<_> = env::args_os().skip(1).collect();
+    let words: Vec<_> = words.iter().map(|word| word.to_string_lossy()).collect();
+    let words: Vec<&str> = words.iter().map(|word| &**word).collect();
     let done = match words[..] {
+        ["--help"] => {
+            println!("{USAGE}");
+            Ok(())
+        }
         ["batch", vectors, folder] => batch(vectors, folder),
         ["apply", folder] => apply(folder),
         ["shorten", folder] => shorten(folder),
-        _ => Err(USAGE.to_string()),
+        _ => Err("no such arguments; gate --help says which there are".to_string()),
     };
     match done {
         Ok(()) => ExitCode::SUCCESS,
         Err(e) => {
-            eprintln!("{e}");
+            eprintln!("gate: {e}");
             ExitCode::from(2)
         }
     }

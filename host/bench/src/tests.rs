@@ -7,20 +7,15 @@ use compare::comparison::Comparison;
 use compare::random::Draws;
 use compare::{at_random, most_pairs, own, random, stated, tree, Answer, Operation, MOST_TIMES, WORDS};
 
-/// Often enough that each length of a list is drawn.
-const OFTEN: usize = 12;
-
-/// None differs by the ways in Rust, nor by the proved code where it is there, with so many drawn lists; and reading alone refuses
+/// None differs by the ways in Rust, nor by the proved code where it is there, with lists of all lengths; and reading alone refuses
 /// by 1 to 7 and 11 as they do, and goes no further.
-fn agree(times: usize, cases: impl IntoIterator<Item = Case>) {
+fn agree(cases: impl IntoIterator<Item = Case>) {
     let mut comparison = Comparison::new();
     for case in cases {
         for operation in case.operations() {
-            let mut draws = Draws::new(1, 1);
-            for _ in 0..times {
-                let compared = comparison.compare(WAYS, &case, operation, &mut draws);
-                compared.unwrap_or_else(|difference| panic!("{difference}"));
-            }
+            let compared = comparison.compare(WAYS, &case, operation, &mut Draws::new(1, 1));
+            let compared = compared.and_then(|_| comparison.compare_lengths(WAYS, &case, operation));
+            compared.unwrap_or_else(|difference| panic!("{difference}"));
         }
         read_alike(&case.card, &case.root, case.words);
     }
@@ -35,13 +30,13 @@ fn read_alike(card: &[u8], root: &[u8], words: usize) {
 #[test]
 fn stated_cards() {
     for operation in Operation::BOTH {
-        agree(OFTEN, stated::all(operation).into_iter().map(|case| Case::of_stated(operation, case)));
+        agree(stated::all(operation).into_iter().map(|case| Case::of_stated(operation, case)));
     }
 }
 
 #[test]
 fn own_cards() {
-    agree(OFTEN, own::cases().into_iter().chain(own::differing()).map(Case::of_own));
+    agree(own::cases().into_iter().chain(own::differing()).map(Case::of_own));
 }
 
 /// What the program shorten is run on, and TestApply's cards.
@@ -50,8 +45,8 @@ fn cards_of_the_programs() {
     let (most_names, _) = stated::most_names();
     let test_apply = stated::test_apply().into_iter().map(|(card, _)| card);
     let with_words = |card: &Bytes, words| Case::new(path("crate"), card.clone(), 65536, words);
-    agree(OFTEN, [4095, 4096].map(|words| with_words(&most_names, words)));
-    agree(OFTEN, test_apply.map(|card| with_words(&card, WORDS)));
+    agree([4095, 4096].map(|words| with_words(&most_names, words)));
+    agree(test_apply.map(|card| with_words(&card, WORDS)));
 }
 
 #[test]
@@ -59,13 +54,10 @@ fn random_cards() {
     let report = at_random::compare(WAYS, 11, 3000, |_| ());
     assert!(report.differ == 0, "{:#?}", report.lines("random cards", WAYS));
     random::cases(11).take(3000).for_each(|case| read_alike(&case.card, &case.root, case.words));
-    agree(
-        OFTEN,
-        random::cases(12).take(500).map(|case| {
-            let out = case.card.len() * MOST_TIMES;
-            Case::new(case.root, case.card, out, case.words)
-        }),
-    );
+    agree(random::cases(12).take(500).map(|case| {
+        let out = case.card.len() * MOST_TIMES;
+        Case::new(case.root, case.card, out, case.words)
+    }));
 }
 
 fn answer(operation: Operation, card: &[u8], out: usize, words: usize) -> Answer {
@@ -85,7 +77,7 @@ fn limits_of_pairs() {
                     let full = answer(operation, &card, out, words) == Err((8, 0));
                     assert_eq!(full, count > most, "{count} pairs, {words} words");
                 }
-                agree(1, [Case::new(path("crate"), card, out, words)]);
+                agree([Case::new(path("crate"), card, out, words)]);
             }
         }
     }

@@ -165,14 +165,40 @@ impl Comparison {
         operation: Operation,
         draws: &mut Draws,
     ) -> Result<Answers, Difference> {
+        let drawn = case.list.unwrap_or_else(|| length(words_of_list(whole), draws));
+        self.hold_all(whole, ways, case, operation, &[None, Some(LONG), Some(drawn)])?;
+        let answer = |list| Due::of(whole, case.out, list).answer;
+        Ok(Answers { without: answer(None), with: answer(Some(drawn)) })
+    }
+
+    /// The first difference with a list of any of the lengths that may be drawn.
+    pub fn compare_lengths(
+        &mut self,
+        ways: &[Way],
+        case: &Case,
+        operation: Operation,
+    ) -> Result<(), Difference> {
+        let whole = tree::whole(operation, &case.card, &case.root, case.words);
+        let words = words_of_list(&whole);
+        let lengths = [0, words.saturating_sub(2), words.saturating_sub(1), words, words + 3];
+        self.hold_all(&whole, ways, case, operation, &lengths.map(Some))
+    }
+
+    /// Each way with each of these lists.
+    fn hold_all(
+        &mut self,
+        whole: &Result<Whole, Refusal>,
+        ways: &[Way],
+        case: &Case,
+        operation: Operation,
+        lists: &[Option<usize>],
+    ) -> Result<(), Difference> {
         // What is due of calls with their own words, where that is not the same.
         let own = match case.is_as_with_own() {
             true => None,
             false => Some(tree::whole(operation, &case.card, &case.root, WORDS)),
         };
-        let words = whole.as_ref().map_or(0, |whole| whole.list.len());
-        let drawn = case.list.unwrap_or_else(|| length(words, draws));
-        for list in [None, Some(LONG), Some(drawn)] {
+        for &list in lists {
             let lending = Lending { words: Some(case.words), list };
             let due = Due::of(whole, case.out, list);
             is_as_stated(case, operation, lending, due)?;
@@ -185,8 +211,7 @@ impl Comparison {
                 self.hold(way, case, operation, lending, due)?;
             }
         }
-        let answer = |list| Due::of(whole, case.out, list).answer;
-        Ok(Answers { without: answer(None), with: answer(Some(drawn)) })
+        Ok(())
     }
 
     /// One call.
@@ -271,6 +296,11 @@ fn keeps_work(answer: Answer) -> bool {
     matches!(answer, Err((1..=7 | 11, _)))
 }
 
+/// How many words the list takes.
+fn words_of_list(whole: &Result<Whole, Refusal>) -> usize {
+    whole.as_ref().map_or(0, |whole| whole.list.len())
+}
+
 /// A length for a list of so many words: none, too short by one or two, just enough, or more.
 fn length(words: usize, draws: &mut Draws) -> usize {
     match draws.below(8) {
@@ -321,9 +351,9 @@ mod tests {
 
     /// What is found of a way, if anything is.
     fn found(way: Way, case: &Case, operation: Operation) -> Option<Difference> {
-        let (mut comparison, mut draws) = (Comparison::new(), Draws::new(1, 1));
-        // Often enough that each length is drawn.
-        (0..40).find_map(|_| comparison.compare(&[way], case, operation, &mut draws).err())
+        let mut comparison = Comparison::new();
+        let compared = comparison.compare(&[way], case, operation, &mut Draws::new(1, 1));
+        compared.and_then(|_| comparison.compare_lengths(&[way], case, operation)).err()
     }
 
     /// What is found of a way that is `tree` but for this.

@@ -720,6 +720,30 @@ mod tests {
         assert_eq!((again.card, again.out, again.words, again.list), (case().card, 1000, WORDS, None));
     }
 
+    /// Whatever a call did, nothing of it is found of the next.
+    #[test]
+    fn differences_leave_nothing() {
+        fn spoil(out: &mut [u8], words: Words) {
+            out.fill(0);
+            words.into_iter().for_each(|words| words.fill(7));
+        }
+        let call: Call = |_, _, _, out, words| {
+            spoil(out, words);
+            Err((4, 17))
+        };
+        let list_call: ListCall = |_, _, _, out, words, list, _| {
+            spoil(out, words);
+            list.fill(0);
+            Err((4, 17))
+        };
+        let (mut comparison, mut draws) = (Comparison::new(), Draws::new(1, 1));
+        for way in [Way { call, ..working!(leave) }, Way { list_call, ..working!(leave) }] {
+            let mut compare = |way| comparison.compare(&[way], &case(), Operation::Upstream, &mut draws);
+            assert_eq!(compare(way).unwrap_err().fault, Fault::Answer);
+            assert!(compare(TREE).is_ok());
+        }
+    }
+
     #[test]
     fn differences_are_counted() {
         let call: Call = |_, _, _, _, _| Err((4, 17));

@@ -1,6 +1,6 @@
 //! Cards for measuring, made: by the number of pairs, one name under many bases, many nested modules, deep
 //! types, typical ones by size, and ones with so many pairs that more words are lent for them.
-use crate::cards::*;
+use compare::cards::*;
 use std::collections::HashSet;
 
 /// Numbers as if drawn, the same each time.

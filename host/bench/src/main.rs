@@ -1,27 +1,29 @@
 //! The console's calls, the proved code, beside two in Rust, by a typed tree and by a walk over bytes: the
 //! same answers, and how fast.
-mod compare;
-
-use compare::{agree, Buffers, Case, Way, LONG, WAYS};
+use compare::at_random;
+use compare::cards::CRATE;
+use compare::case::Case;
+use compare::comparison::{compare_all, LONG};
+use compare::report::Report;
+use compare::text;
+use compare::ways::Way;
+use compare::{own, tree, Answer, Operation, MOST_CARD, WORDS};
 use std::hint::black_box;
 use std::process::ExitCode;
 use std::time::{Duration, Instant};
-use yardstick::cards::CRATE;
-use yardstick::random::Cards;
-use yardstick::text;
-use yardstick::{classes, own, reader, tree, Answer, Operation, MOST_CARD, MOST_TIMES, WORDS};
+use yardstick::{classes, reader, WAYS};
 
 const USAGE: &str = "\
-shortening [--vectors VECTORS] [--cards N] [--seed S]
-                              every answer, then the time; VECTORS is a folder of files
-shortening vectors VECTORS    only the answers to vectors
-shortening random [N [SEED]]  only those to random cards
-shortening only WAY CLASS TIMES [VECTORS]
-                              for a profiler: console, tree or walk over a class, straight
-                              shortening if +straight stands behind its name, with a list if
-                              +list does
-shortening reading WAY CLASS TIMES [VECTORS]
-                              the same with cards that are only read: console or reader";
+bench [--vectors VECTORS] [--cards N] [--seed S]
+                         every answer, then the time; VECTORS is a folder of files
+bench vectors VECTORS    only the answers to vectors
+bench random [N [SEED]]  only those to random cards
+bench only WAY CLASS TIMES [VECTORS]
+                         for a profiler: console, tree or walk over a class, straight
+                         shortening if +straight stands behind its name, with a list if
+                         +list does
+bench reading WAY CLASS TIMES [VECTORS]
+                         the same with cards that are only read: console or reader";
 
 const CARDS: usize = 20_000;
 const SEED: u64 = 1;
@@ -30,25 +32,23 @@ const ROUNDS: usize = 101;
 /// machine gives to other programs.
 const TURN: Duration = Duration::from_micros(300);
 
-/// Random cards by each operation, some lent a little more than their output takes, some much more, some too little.
-fn random(count: usize, seed: u64) -> impl Iterator<Item = Case> {
-    let mut room = vec![0; MOST_CARD * MOST_TIMES];
-    Cards::new(seed).take(count).enumerate().flat_map(move |(i, c)| {
-        Operation::BOTH.map(|operation| {
-            let length = tree::shorten(operation, &c.card, &c.root, &mut room, c.words).unwrap_or(60);
-            let out = match i % 20 {
-                0 | 1 => length.saturating_sub(1),
-                2 => length / 2,
-                3 => 0,
-                4..=8 => length,
-                9..=11 => (length * 2).min(MOST_CARD * MOST_TIMES),
-                12 => c.card.len().min(MOST_CARD) * MOST_TIMES,
-                13 | 14 => length.max(65536),
-                more => length + more,
-            };
-            Case::new(c.root.clone(), c.card.clone(), out, c.words).by(operation)
-        })
-    })
+/// What is lent to the calls that are measured.
+struct Room {
+    out: Vec<u8>,
+    words: Vec<u32>,
+    list: Vec<u32>,
+}
+
+impl Room {
+    /// Enough for these.
+    fn new<'c>(classes: impl IntoIterator<Item = &'c Class>) -> Room {
+        let (mut out, mut words) = (0, 0);
+        for case in classes.into_iter().flat_map(|class| &class.cases) {
+            out = out.max(case.out);
+            words = words.max(case.words);
+        }
+        Room { out: vec![0; out], words: vec![0; words], list: vec![0; LONG] }
+    }
 }
 
 struct Class {
@@ -110,21 +110,24 @@ fn racers() -> Vec<Racer> {
 }
 
 impl Class {
-    fn turn(&self, racer: Racer, passes: usize, buffers: &mut Buffers) -> Duration {
-        let Buffers { out, words, list, .. } = buffers;
+    fn turn(&self, racer: Racer, passes: usize, room: &mut Room) -> Duration {
+        let Room { out, words, list } = room;
         // Cleared before each turn, out of the time, for all alike.
         let lent = self.cases.iter().map(|case| case.out).max().unwrap_or(0);
         out[..lent].fill(0);
-        list[..LONG].fill(0);
+        list.fill(0);
         let Racer { way, operation, listed } = racer;
-        let mut words = self.lends.then_some(&mut words[..]);
         match listed {
             false => self.time(passes, |case| {
-                case.call(way, operation, black_box(out), black_box(words.as_deref_mut()))
+                let words = self.lends.then_some(&mut words[..case.words]);
+                let (out, words) = (black_box(&mut out[..case.out]), black_box(words));
+                (way.call)(operation, &case.card, &case.root, out, words)
             }),
             true => self.time(passes, |case| {
-                let (words, list) = (words.as_deref_mut(), &mut list[..LONG]);
-                case.list_call(way, operation, black_box(out), black_box(words), black_box(list), &mut 0)
+                let words = self.lends.then_some(&mut words[..case.words]);
+                let (out, words) = (black_box(&mut out[..case.out]), black_box(words));
+                let list = black_box(&mut list[..]);
+                (way.list_call)(operation, &case.card, &case.root, out, words, list, &mut 0)
             }),
         }
     }
@@ -140,16 +143,15 @@ impl Class {
     }
 
     /// Microseconds of a card by each racer.
-    fn measure(&self, racers: &[Racer], buffers: &mut Buffers) -> Vec<f64> {
-        medians(self.cases.len(), racers.len(), |i, passes| self.turn(racers[i], passes, buffers))
+    fn measure(&self, racers: &[Racer], room: &mut Room) -> Vec<f64> {
+        medians(self.cases.len(), racers.len(), |i, passes| self.turn(racers[i], passes, room))
     }
 
     /// How many bytes a card has and how many its output, on an average.
-    fn bytes(&self, buffers: &mut Buffers) -> (usize, usize) {
-        let Buffers { out, words, .. } = buffers;
+    fn bytes(&self) -> (usize, usize) {
         let output = |case: &Case| {
-            let words = self.lends.then_some(&mut words[..]);
-            case.call(&WAYS[0], Operation::Upstream, out, words).unwrap_or(0)
+            let (mut out, words) = (vec![0; case.out], if self.lends { case.words } else { WORDS });
+            tree::shorten(Operation::Upstream, &case.card, &case.root, &mut out, words).unwrap_or(0)
         };
         let card: usize = self.cases.iter().map(|case| case.card.len()).sum();
         let output: usize = self.cases.iter().map(output).sum();
@@ -188,7 +190,9 @@ impl Class {
 type Reader = fn(&Case, &mut [u8]) -> Answer;
 
 const READERS: [(&str, Reader); 2] = [
-    (WAYS[0].what, |case, out| case.call(&WAYS[0], Operation::Upstream, out, None)),
+    (WAYS[0].what, |case, out| {
+        (WAYS[0].call)(Operation::Upstream, &case.card, &case.root, &mut out[..case.out], None)
+    }),
     ("reader", |case, _| reader::admit(&case.card, &case.root, case.words).map(|()| 0)),
 ];
 
@@ -218,14 +222,14 @@ fn print_head() {
     WAYS.iter().for_each(|way| print!("  {:>9}", way.what));
 }
 
-fn print_times(class: &Class, times: &[f64], buffers: &mut Buffers) {
-    let (card, output) = class.bytes(buffers);
+fn print_times(class: &Class, times: &[f64]) {
+    let (card, output) = class.bytes();
     print!("{:11}  {card:8}  {output:9}", class.what);
     times.iter().for_each(|time| print!("  {time:9.2}"));
 }
 
 /// Without words lent.
-fn report(classes: &[Class], buffers: &mut Buffers) {
+fn report(classes: &[Class], room: &mut Room) {
     println!("medians of {ROUNDS} rounds: microseconds of a card, then the times one takes of another's;");
     let first = format!("{}/{}", WAYS[0].what, WAYS[1].what);
     println!(
@@ -237,17 +241,17 @@ fn report(classes: &[Class], buffers: &mut Buffers) {
     println!("  {:>9}  {:>8}", "with list", "straight");
     let racers = racers();
     for class in classes {
-        let times = class.measure(&racers, buffers);
+        let times = class.measure(&racers, room);
         let (without, rest) = times.split_at(WAYS.len());
         let (with, straight) = rest.split_at(2);
-        print_times(class, without, buffers);
+        print_times(class, without);
         ratios().for_each(|(i, j)| print!("  {:12.2}", without[i] / without[j]));
         println!("  {:9.2}  {:8.2}", with[0] / with[1], straight[0] / straight[1]);
     }
 }
 
 /// With words lent, by the old operation without a list.
-fn report_lent(classes: &[Class], buffers: &mut Buffers) {
+fn report_lent(classes: &[Class], room: &mut Room) {
     let (first, others) = (&WAYS[0], &WAYS[1..]);
     println!("with 4,096 words lent: microseconds of a card, nanoseconds of a pair by {},", first.what);
     println!("then the times it takes of another's");
@@ -257,8 +261,8 @@ fn report_lent(classes: &[Class], buffers: &mut Buffers) {
     println!();
     let racers = &racers()[..WAYS.len()];
     for class in classes {
-        let times = class.measure(racers, buffers);
-        print_times(class, &times, buffers);
+        let times = class.measure(racers, room);
+        print_times(class, &times);
         print!("  {:9.1}", times[0] * 1e3 / class.pairs());
         times[1..].iter().for_each(|time| print!("  {:12.2}", times[0] / time));
         println!();
@@ -300,18 +304,24 @@ fn vectors_of(folder: Option<&str>) -> Result<Vec<Vectors>, String> {
     Ok(files.into_iter().map(of_file).collect())
 }
 
-fn buffers_for(files: &[Vectors]) -> Buffers {
-    Buffers::new(files.iter().flat_map(|file| &file.cases))
+/// Says what came of cases: whether none differs.
+fn agree(what: &str, report: Report) -> bool {
+    report.lines(what, WAYS).iter().for_each(|line| println!("{line}"));
+    report.differ == 0
 }
 
 /// The answers to the vectors, file by file: whether none differs.
-fn agree_on(files: &[Vectors], buffers: &mut Buffers) -> bool {
+fn agree_on(files: &[Vectors]) -> bool {
     let mut same = true;
     for Vectors { name, changed, cases } in files {
         println!("{name}: {} lines, {changed} of them answered otherwise by a later file", cases.len());
-        same &= agree(name, cases, buffers);
+        same &= agree(name, compare_all(WAYS, cases));
     }
     same
+}
+
+fn agree_at_random(cards: usize, seed: u64) -> bool {
+    agree("random cards", at_random::compare(WAYS, seed, cards, |_| ()))
 }
 
 /// The vectors of document 01 as a class, those that lend fewer work words than the console's call brings left
@@ -325,24 +335,21 @@ fn as_class(files: Vec<Vectors>) -> Option<Class> {
 fn run(folder: Option<&str>, cards: usize, seed: u64) -> Result<bool, String> {
     let vectors = vectors_of(folder)?;
     let (mut classes, lent_classes) = (of_classes(), of_lent_classes());
-    let mut buffers = buffers_for(&vectors);
-    let own = own::cases().into_iter().chain(own::differing()).map(|c| {
-        let out = c.card.len() * MOST_TIMES;
-        Case::new(c.root, c.card, out, c.words)
-    });
-    let mut same = agree_on(&vectors, &mut buffers);
-    same &= agree("own cards", own, &mut buffers);
+    let own = own::cases().into_iter().chain(own::differing()).map(Case::of_own);
+    let mut same = agree_on(&vectors);
+    same &= agree("own cards", compare_all(WAYS, own));
     let all = classes.iter().chain(&lent_classes);
-    same &= agree("classes", all.flat_map(|class| &class.cases), &mut buffers);
-    same &= agree("random cards", random(cards, seed), &mut buffers);
+    same &= agree("classes", compare_all(WAYS, all.flat_map(|class| &class.cases)));
+    same &= agree_at_random(cards, seed);
     if !same {
         println!("nothing is measured");
         return Ok(false);
     }
     classes.extend(as_class(vectors));
-    report(&classes, &mut buffers);
-    report_lent(&lent_classes, &mut buffers);
-    report_reading(&classes, &mut buffers.out);
+    let mut room = Room::new(classes.iter().chain(&lent_classes));
+    report(&classes, &mut room);
+    report_lent(&lent_classes, &mut room);
+    report_reading(&classes, &mut room.out);
     Ok(true)
 }
 
@@ -361,25 +368,24 @@ fn racer(name: &str) -> Result<Racer, String> {
     Ok(racer)
 }
 
-/// A class by its name, and buffers for it.
-fn class(name: &str, folder: Option<&str>) -> Result<(Class, Buffers), String> {
-    let vectors = vectors_of(folder)?;
-    let buffers = buffers_for(&vectors);
-    let classes = of_classes().into_iter().chain(of_lent_classes()).chain(as_class(vectors));
+/// A class by its name, and room for it.
+fn class(name: &str, folder: Option<&str>) -> Result<(Class, Room), String> {
+    let classes = of_classes().into_iter().chain(of_lent_classes()).chain(as_class(vectors_of(folder)?));
     let class = { classes }.find(|c| c.what == name).ok_or("no such class")?;
-    Ok((class, buffers))
+    let room = Room::new([&class]);
+    Ok((class, room))
 }
 
 fn only(way: &str, name: &str, times: &str, folder: Option<&str>) -> Result<bool, String> {
-    let (class, mut buffers) = class(name, folder)?;
-    class.turn(racer(way)?, number(times)?, &mut buffers);
+    let (class, mut room) = class(name, folder)?;
+    class.turn(racer(way)?, number(times)?, &mut room);
     Ok(true)
 }
 
 fn only_reading(way: &str, name: &str, times: &str, folder: Option<&str>) -> Result<bool, String> {
-    let (class, mut buffers) = class(name, folder)?;
+    let (class, mut room) = class(name, folder)?;
     let (_, reader) = READERS.iter().find(|(what, _)| *what == way).ok_or("no such way")?;
-    class.only_read(&mut buffers.out).read(*reader, number(times)?, &mut buffers.out);
+    class.only_read(&mut room.out).read(*reader, number(times)?, &mut room.out);
     Ok(true)
 }
 
@@ -390,14 +396,15 @@ fn number<T: std::str::FromStr>(digits: &str) -> Result<T, String> {
 /// Whether nothing differs, or what is wrong with what was asked.
 fn asked(words: &[&str]) -> Result<bool, String> {
     match *words {
-        ["vectors", folder] => {
-            let vectors = vectors_of(Some(folder))?;
-            Ok(agree_on(&vectors, &mut buffers_for(&vectors)))
+        ["--help"] => {
+            println!("{USAGE}");
+            Ok(true)
         }
+        ["vectors", folder] => Ok(agree_on(&vectors_of(Some(folder))?)),
         ["random", ref rest @ ..] if rest.len() <= 2 => {
             let cards = rest.first().map_or(Ok(CARDS), |n| number(n))?;
             let seed = rest.get(1).map_or(Ok(SEED), |n| number(n))?;
-            Ok(agree("random cards", random(cards, seed), &mut Buffers::new([])))
+            Ok(agree_at_random(cards, seed))
         }
         ["only", way, class, times] => only(way, class, times, None),
         ["only", way, class, times, folder] => only(way, class, times, Some(folder)),
@@ -410,7 +417,7 @@ fn asked(words: &[&str]) -> Result<bool, String> {
                     ["--vectors", name] => folder = Some(name),
                     ["--cards", n] => cards = number(n)?,
                     ["--seed", n] => seed = number(n)?,
-                    _ => return Err(USAGE.to_string()),
+                    _ => return Err("no such arguments; bench --help says which there are".to_string()),
                 }
             }
             run(folder, cards, seed)
@@ -419,12 +426,13 @@ fn asked(words: &[&str]) -> Result<bool, String> {
 }
 
 fn main() -> ExitCode {
-    let words: Vec<String> = std::env::args().skip(1).collect();
-    match asked(&words.iter().map(String::as_str).collect::<Vec<_>>()) {
+    let words: Vec<_> = std::env::args_os().skip(1).collect();
+    let words: Vec<_> = words.iter().map(|word| word.to_string_lossy()).collect();
+    match asked(&words.iter().map(|word| &**word).collect::<Vec<_>>()) {
         Ok(true) => ExitCode::SUCCESS,
         Ok(false) => ExitCode::FAILURE,
         Err(e) => {
-            eprintln!("{e}");
+            eprintln!("bench: {e}");
             ExitCode::from(2)
         }
     }

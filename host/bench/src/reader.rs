@@ -1,5 +1,5 @@
 //! Reading alone, as document 01 states it, with nothing kept: a function for each datatype.
-use crate::{Refusal, MOST_CARD, MOST_ROOT, WORDS};
+use compare::{Refusal, MOST_CARD, MOST_ROOT, WORDS};
 use std::ops::RangeInclusive;
 
 type Reading = Result<(), Refusal>;

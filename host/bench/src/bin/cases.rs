@@ -1,13 +1,13 @@
 //! Writes the cases of the program test_collecting, one to a line: ROOT CARD WORDS. They are the cards
-//! of own.rs and as many vectors of document 01 as fit, in their order, and last lines that are no
+//! of `compare::own` and as many vectors of document 01 as fit, in their order, and last lines that are no
 //! cases.
+use compare::own;
+use compare::text::{self, digits, Vector};
+use compare::tree::outermost;
 use std::cmp::Reverse;
 use std::collections::{BTreeMap, HashSet};
 use std::env;
 use std::process::ExitCode;
-use yardstick::own;
-use yardstick::text::{self, digits, Vector};
-use yardstick::tree::outermost;
 
 /// The most bytes of all cases.
 const ROOM: usize = 1_195_000;
@@ -42,11 +42,11 @@ fn line(root: &[u8], card: &[u8], words: usize) -> String {
 }
 
 fn main() -> ExitCode {
-    let folder = env::args().nth(1).ok_or("give a folder of vectors".to_string());
-    match folder.and_then(|folder| text::folder(&folder)) {
+    let folder = env::args_os().nth(1).ok_or("give a folder of vectors".to_string());
+    match folder.and_then(|folder| text::folder(&folder.to_string_lossy())) {
         Ok(files) => run(&files[0].vectors),
         Err(e) => {
-            eprintln!("{e}");
+            eprintln!("cases: {e}");
             return ExitCode::from(2);
         }
     }
@@ -77,13 +77,14 @@ fn run(vectors: &[Vector]) {
     rest.sort_by_key(|(_, line, _)| line.len());
     let mut most: Vec<usize> = rest.iter().flat_map(|(_, _, answer)| *answer).collect();
     most.sort_by_key(|&pairs| Reverse(pairs));
+    let tenth = most.get(9).copied().unwrap_or(0);
 
     // First the refused and the ten with most pairs, then all others, the shortest first.
     let mut ranked = Vec::new();
     let mut refused = BTreeMap::new();
     for (i, line, answer) in rest {
         match answer {
-            Ok(pairs) => ranked.push((pairs < most[9], i, line, "vectors: accepted".to_string())),
+            Ok(pairs) => ranked.push((pairs < tenth, i, line, "vectors: accepted".to_string())),
             Err((number, _)) => {
                 let so_far = refused.entry(number).or_insert(0);
                 *so_far += 1;

@@ -1,8 +1,8 @@
 //! What the program test_collecting should write for the cases on standard input, one to a line:
 //! ROOT CARD WORDS.
+use compare::tree::{bytes, is_runtime, outermost, Path};
+use compare::{text, Refusal, WORDS};
 use std::io::{self, Read, Write};
-use yardstick::tree::{bytes, is_runtime, outermost, Path};
-use yardstick::{text, Refusal, WORDS};
 
 fn case(line: &str) -> Option<(Vec<u8>, Vec<u8>, usize)> {
     let mut fields = line.split(' ');

@@ -1,13 +1,14 @@
 //! Writes what the programs batch, test_apply and shorten are run on, and what they should write: the files stdin
 //! and stdout of a folder.
+use compare::cards::CRATE;
+use compare::stated::{self, Stated};
+use compare::text::{self, digits, Vector};
+use compare::{own, tree, Operation, LANDED, MOST_CARD, MOST_ENTRIES, MOST_TIMES, WORDS};
 use std::env;
 use std::fs;
 use std::ops::RangeInclusive;
 use std::process::ExitCode;
-use yardstick::cards::CRATE;
-use yardstick::stated::{self, Stated};
-use yardstick::text::{self, digits, Vector};
-use yardstick::{own, tree, walk, Operation, LANDED, MOST_CARD, MOST_ENTRIES, MOST_TIMES, WORDS};
+use yardstick::walk;
 
 const USAGE: &str = "\
 gate batch VECTORS FOLDER  every vector of the folder VECTORS with its latest answer, and cases
@@ -91,13 +92,7 @@ fn write(folder: &str, stdin: &[u8], stdout: &[u8]) -> Result<(), String> {
     Ok(())
 }
 
-/// A case whose answer is stated. None is accepted with a list.
-fn of_stated(operation: Option<Operation>, case: Stated) -> Vector {
-    let Stated { root, card, out, words, lent, answer, output, .. } = case;
-    Vector { operation, root, card, out, words, lent, answer, output, list: Vec::new() }
-}
-
-/// A card of own.rs, lent just what it takes. Its answer is that of the two in Rust, which must agree.
+/// A card of `compare::own`, lent just what it takes. Its answer is that of the two in Rust, which must agree.
 fn of_own(operation: Operation, case: own::Case) -> Result<Vector, String> {
     let own::Case { sort, root, card, words } = case;
     let [first, second] = [tree::shorten_places, walk::shorten_places].map(|shorten| {
@@ -163,10 +158,10 @@ fn put_own_use(lines: &mut Lines, operation: Operation) {
     lines.put_case(&without_list(&case));
 }
 
-/// Limits and wrong ports, the cards of own.rs, and lines that are no cases.
+/// Limits and wrong ports, the cards of `compare::own`, and lines that are no cases.
 fn put_plain(lines: &mut Lines) -> Result<(), String> {
     for case in stated::limits().into_iter().chain(stated::wrong_ports(Operation::Upstream)) {
-        lines.put_case(&of_stated(None, case));
+        lines.put_case(&case.vector(None));
     }
     for (i, case) in own::cases().into_iter().enumerate() {
         let case = plain(&of_own(Operation::Upstream, case)?);
@@ -176,7 +171,7 @@ fn put_plain(lines: &mut Lines) -> Result<(), String> {
         }
     }
     // What is past the room, and past the end of a case.
-    let least = of_stated(None, stated::limits().swap_remove(2));
+    let least = stated::limits().swap_remove(2).vector(None);
     lines.put_case(&Vector { out: 99_999_999_999, words: 99_999_999_999, ..least.clone() });
     let least = Vector { out: 100, ..least };
     lines.put(&format!("{} = anything", least.question()), &least.answer());
@@ -197,7 +192,7 @@ fn put_lists(lines: &mut Lines) {
     }
 }
 
-/// Cards of own.rs with lists, now and then without one, or with too few bytes or words.
+/// Cards of `compare::own` with lists, now and then without one, or with too few bytes or words.
 fn put_own(lines: &mut Lines, operation: Operation, cases: Vec<own::Case>) -> Result<(), String> {
     for (i, case) in cases.into_iter().enumerate() {
         let case = of_own(operation, case)?;
@@ -215,23 +210,23 @@ fn put_own(lines: &mut Lines, operation: Operation, cases: Vec<own::Case>) -> Re
     Ok(())
 }
 
-/// Cases of straight shortening whose answers are stated, the cards of own.rs, a card whose own use is
+/// Cases of straight shortening whose answers are stated, the cards of `compare::own`, a card whose own use is
 /// that of the pass, and lines that are no such cases; of what tells the operations apart the old one's too.
 fn put_straight(lines: &mut Lines) -> Result<(), String> {
     const STRAIGHT: Operation = Operation::Straight;
     for case in stated::limits().into_iter().chain(stated::wrong_ports(STRAIGHT)) {
-        lines.put_case(&of_stated(Some(STRAIGHT), case));
+        lines.put_case(&case.vector(Some(STRAIGHT)));
     }
     for operation in Operation::BOTH {
         for case in stated::told_apart(operation) {
-            lines.put_case(&of_stated(Some(operation), case));
+            lines.put_case(&case.vector(Some(operation)));
         }
         put_own(lines, operation, own::differing())?;
     }
     put_own(lines, STRAIGHT, own::cases())?;
     put_own_use(lines, STRAIGHT);
     // What is past the end of a case.
-    let least = of_stated(Some(STRAIGHT), stated::limits().swap_remove(2));
+    let least = stated::limits().swap_remove(2).vector(Some(STRAIGHT));
     lines.put(&format!("{} = anything", least.question()), &least.answer());
     for line in NO_STRAIGHTS {
         lines.put(line, NO_STRAIGHT);
@@ -243,7 +238,7 @@ fn put_straight(lines: &mut Lines) -> Result<(), String> {
 fn put_alike(lines: &mut Lines, cases: fn() -> Vec<Stated>) {
     for operation in Operation::BOTH {
         for case in cases() {
-            lines.put_case(&of_stated(Some(operation), case));
+            lines.put_case(&case.vector(Some(operation)));
         }
     }
 }
@@ -317,18 +312,23 @@ fn shorten(folder: &str) -> Result<(), String> {
 }
 
 fn main() -> ExitCode {
-    let words: Vec<String> = env::args().skip(1).collect();
-    let words: Vec<&str> = words.iter().map(String::as_str).collect();
+    let words: Vec<_> = env::args_os().skip(1).collect();
+    let words: Vec<_> = words.iter().map(|word| word.to_string_lossy()).collect();
+    let words: Vec<&str> = words.iter().map(|word| &**word).collect();
     let done = match words[..] {
+        ["--help"] => {
+            println!("{USAGE}");
+            Ok(())
+        }
         ["batch", vectors, folder] => batch(vectors, folder),
         ["apply", folder] => apply(folder),
         ["shorten", folder] => shorten(folder),
-        _ => Err(USAGE.to_string()),
+        _ => Err("no such arguments; gate --help says which there are".to_string()),
     };
     match done {
         Ok(()) => ExitCode::SUCCESS,
         Err(e) => {
-            eprintln!("{e}");
+            eprintln!("gate: {e}");
             ExitCode::from(2)
         }
     }

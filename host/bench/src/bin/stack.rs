@@ -1,7 +1,8 @@
 //! How many bytes of stack the console's calls take: the stack is painted, the call made, and the paint looked at.
+use compare::{cards, console, Operation, WORDS};
 use std::hint::black_box;
 use std::thread;
-use yardstick::{cards, classes, console, Operation, WORDS};
+use yardstick::classes;
 
 /// How much is painted, and the paint.
 const PAINTED: usize = 256 << 10;

@@ -5,8 +5,8 @@
 mod names;
 mod write;
 
-use crate::rows::{Place, Shape, What, DECLARATIONS, KEPT, MODULE, PATH, ROWS, TEXT};
-use crate::{most_pairs, Answer, Listed, Operation, Refusal, MOST_CARD, MOST_ROOT, WORDS};
+use compare::rows::{Place, Shape, What, DECLARATIONS, KEPT, MODULE, PATH, ROWS, TEXT};
+use compare::{most_pairs, Answer, Listed, Operation, Refusal, MOST_CARD, MOST_ROOT, WORDS};
 use names::{Names, NONE};
 
 /// Something that may change.

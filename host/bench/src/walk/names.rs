@@ -1,5 +1,5 @@
 //! The names of all modules of a card, with their bases.
-use crate::Operation;
+use compare::Operation;
 use std::collections::hash_map::{Entry, HashMap};
 use std::hash::{BuildHasherDefault, Hasher};
 use std::iter;

@@ -1,7 +1,7 @@
 //! The second pass: the card copied with its changes.
 use super::names::Names;
 use super::{end_of, path_at, Point, Sort};
-use crate::Mark;
+use compare::Mark;
 use std::slice::ChunksExactMut;
 
 /// A Text.

@@ -1,6 +1,7 @@
 //! Cases whose answers are stated, by the Dafny text, document 01 or a request, and not worked out.
 use crate::cards::*;
-use crate::{Answer, Operation, MOST_CARD, WORDS};
+use crate::text::Vector;
+use crate::{most_pairs, Answer, Operation, MOST_CARD, WORDS};
 
 pub struct Stated {
     pub what: &'static str,
@@ -12,6 +13,23 @@ pub struct Stated {
     pub lent: Option<usize>,
     pub answer: Answer,
     pub output: Bytes,
+    /// The words of the list's entries, where one is lent.
+    pub list: Vec<u32>,
+}
+
+impl Stated {
+    /// As a line of the vectors has it, with its operation or without.
+    pub fn vector(self, operation: Option<Operation>) -> Vector {
+        let Stated { root, card, out, words, lent, answer, output, list, .. } = self;
+        Vector { operation, root, card, out, words, lent, answer, output, list }
+    }
+}
+
+/// Every case that is stated of an operation.
+pub fn all(operation: Operation) -> Vec<Stated> {
+    let alike = [limits(), nameless(), full_tables(), around_limits(), short_lists()];
+    let by_operation = [proved_cards, wrong_ports, told_apart, lists].map(|of| of(operation));
+    alike.into_iter().chain(by_operation).flatten().collect()
 }
 
 const LENT: usize = 65536;
@@ -23,7 +41,7 @@ fn m(body: &[Bytes]) -> Bytes {
 /// Under the root crate, without a list.
 fn accepted(what: &'static str, card: Bytes, output: Bytes) -> Stated {
     let (root, answer) = (path("crate"), Ok(output.len()));
-    Stated { what, root, card, out: LENT, words: WORDS, lent: None, answer, output }
+    Stated { what, root, card, out: LENT, words: WORDS, lent: None, answer, output, list: Vec::new() }
 }
 
 fn refused(what: &'static str, card: Bytes, words: usize, number: u32, place: u32) -> Stated {
@@ -44,6 +62,152 @@ pub fn short(spelled: &str) -> Bytes {
 pub fn constants(types: &[Bytes]) -> Vec<Bytes> {
     let constant = |(i, of): (usize, &Bytes)| constant(format!("k{}", i + 1), of.clone(), raw());
     types.iter().enumerate().map(constant).collect()
+}
+
+/// P1 to P10, P14 and P15 of document 01, and an empty card, which both operations answer alike; the others are in `told_apart`.
+fn proved_cards(_: Operation) -> Vec<Stated> {
+    let nothing = |what, card: Bytes| accepted(what, card.clone(), card);
+    let refused = |what, card, number, place| refused(what, card, WORDS, number, place);
+    let least = extern_module("a");
+    let constants = |types: &[Bytes]| -> Vec<Bytes> {
+        let names = ["k1", "k2"].into_iter().zip(types);
+        names.map(|(name, of)| constant(name, of.clone(), record(0x40, &[text("")]))).collect()
+    };
+    let p3 = |uses: &[Bytes], of| m(&[uses, &[implementation(&[], of, &[])]].concat());
+    let p6 = |uses: &[Bytes], of| m(&[uses, &constants(&[of, ty("::a::X")])].concat());
+    let p7 = |of| p6(&[structure("X", &[], named_fields(&[]))], of);
+    let p8 = |uses: &[Bytes], value| m(&[uses, &[constant("k1", bool_type(), value)]].concat());
+    vec![
+        nothing("P1", least.clone()),
+        nothing("P2", m(&[])),
+        accepted("P3", p3(&[], ty("::B")), p3(&[use_decl("::B")], short("::B"))),
+        Stated { out: 136, ..refused("P4", p3(&[], ty("::B")), 9, 0) },
+        nothing("P5", m(&constants(&[ty("::a::X"), ty("::b::X")]))),
+        accepted(
+            "P6",
+            p6(&[], ty("::dafny_runtime::X")),
+            p6(&[use_decl("::dafny_runtime::X")], short("::dafny_runtime::X")),
+        ),
+        accepted("P7", p7(ty("crate::m::X")), p7(short("crate::m::X"))),
+        accepted("P8", p8(&[], ex("::a::rd!")), p8(&[use_decl("::a::rd")], record(0x42, &[text("rd!")]))),
+        nothing("P9", m(&constants(&[ty("Self::X")]))),
+        nothing("P10", m(&[structure("S", &[], named_fields(&[ty("::a::X")]))])),
+        refused("P14", vec![2, 0, 0, 0, 0x60, 0], 4, 6),
+        refused("P15", [&least[..], &[0]].concat(), 7, 13),
+        refused("an empty card", vec![], 4, 0),
+    ]
+}
+
+/// Where bytes stand first in others.
+fn find(bytes: &[u8], of: &[u8]) -> u32 {
+    let place = bytes.windows(of.len()).position(|part| part == of);
+    place.expect("an output has what is listed of it") as u32
+}
+
+/// Lists, their offsets spelled out or found by what should stand there, with as many words as they take.
+fn lists(operation: Operation) -> Vec<Stated> {
+    let listed = |case: Stated, list: Vec<u32>| {
+        let (out, lent) = (case.output.len(), Some(list.len()));
+        Stated { out, lent, list, ..case }
+    };
+    // Heads of Mod and body, three fields of Mod.
+    let body = 6 + 6 + (6 + 6 + 7);
+    let proved = proved_cards(operation).into_iter().filter(|case| case.answer.is_ok());
+    let mut cases: Vec<Stated> = proved
+        .map(|case| {
+            let at = |of: &[u8]| find(&case.output, of);
+            let list = match case.what {
+                // Behind the use: heads of ImplDecl and Impl, an empty list.
+                "P3" => vec![body, 3, body + 38 + 18, 1],
+                "P6" => vec![body, 3, at(&short("::dafny_runtime::X")), 1],
+                "P7" => vec![at(&short("crate::m::X")), 1],
+                "P8" => vec![body, 3, at(&record(0x42, &[text("rd!")])), 2],
+                _ => vec![],
+            };
+            listed(case, list)
+        })
+        .collect();
+    // The card's own use, which is the same as the one put.
+    let with_use = |uses: &[Bytes], value| {
+        let rest = [use_decl("::a::rd"), constant("k1", bool_type(), value)];
+        m(&[uses, &rest].concat())
+    };
+    let value = record(0x42, &[text("rd!")]);
+    let output = with_use(&[use_decl("::a::rd")], value.clone());
+    let list = vec![body, 3, find(&output, &value), 2];
+    cases.push(listed(accepted("an own use", with_use(&[], ex("::a::rd!")), output), list));
+    // A type in the card's own synonyms, whose display is the same: behind the outer two, a head and an Identifier each.
+    let in_own = |of| wrapped("B", wrapped("B", of));
+    let output = m(&[&[use_decl("::B")], &constants(&[short("::B"), in_own(short("::B"))])[..]].concat());
+    let second = find(&output, &in_own(short("::B"))) + 2 * (6 + 6 + 7);
+    let list = vec![body, 3, find(&output, &short("::B")), 1, second, 1];
+    cases
+        .push(listed(accepted("own synonyms", m(&constants(&[ty("::B"), in_own(ty("::B"))])), output), list));
+    // In a Fn the outermost synonym, in a nested module its uses.
+    for case in told_apart(operation) {
+        let at = |of: &[u8]| find(&case.output, of);
+        let of_b = |own: &str, is_prefix: bool| {
+            let uses = [own, "::c::Y"].map(|of| (use_decl(of), 3)).into_iter().skip(is_prefix as usize);
+            let types = [own, "::c::Y"].map(|of| (short(of), 1));
+            uses.chain(types).flat_map(|(of, mark)| [at(&of), mark]).collect()
+        };
+        let doubled = operation == Operation::Upstream;
+        let list = match case.what {
+            "P11" | "P12" => vec![body, 3, at(&in_function(operation)), 1],
+            "P13" => of_b("crate::m::b::b::X", doubled),
+            _ => of_b("crate::m::b::X", !doubled),
+        };
+        cases.push(listed(case, list));
+    }
+    cases
+}
+
+/// 10 comes after 9, and two words are due for each entry.
+fn short_lists() -> Vec<Stated> {
+    let of = |uses: &[Bytes], of| m(&[uses, &[implementation(&[], of, &[])]].concat());
+    let (card, output) = (of(&[], ty("::B")), of(&[use_decl("::B")], short("::B")));
+    let refused = |what, out, words, number| Stated {
+        out,
+        lent: Some(words),
+        ..refused(what, card.clone(), WORDS, number, 0)
+    };
+    let suffices = |words| Stated {
+        out: 137,
+        lent: Some(words),
+        list: vec![31, 3, 87, 1],
+        ..accepted("a list that suffices", card.clone(), output.clone())
+    };
+    let mut cases = vec![refused("no space, no list", 136, 0, 9), refused("no space", 136, 4, 9)];
+    cases.extend([0, 1, 2, 3].map(|words| refused("a short list", 137, words, 10)));
+    cases.extend([4, 5, 100].map(suffices));
+    cases
+}
+
+/// A full table comes before too little room, an outer one before an inner.
+fn around_limits() -> Vec<Stated> {
+    let refused =
+        |what, words, card, number, place| Stated { out: 0, ..refused(what, card, words, number, place) };
+    let mut cases = Vec::new();
+    for words in [2048, 2052, 2800, 4096, 9999] {
+        let most = most_pairs(words);
+        // Behind heads of Mod and its body, three more fields of Mod, the head of ModDecl.
+        let inner = 6 + 6 + 6 + 7 + 6 + 6;
+        // The nested module is one of its parent's pairs.
+        let with_nested = |count| m(&[vec![nested(m(&own(300)))], own(count)].concat());
+        cases.extend([
+            refused("as many pairs as may be", words, m(&own(most)), 9, 0),
+            refused("one pair too many", words, m(&own(most + 1)), 8, 0),
+            refused("one too many inside", words, m(&[nested(m(&own(most + 1)))]), 8, inner),
+            refused("as many beside a module", words, with_nested(most - 1), 9, 0),
+            refused("one too many beside a module", words, with_nested(most), 8, 0),
+        ]);
+    }
+    let both = m(&[vec![nested(m(&own(513)))], own(512)].concat());
+    cases.push(refused("too many outside and inside", 2048, both.clone(), 8, 0));
+    cases.push(refused("enough outside and inside", 2052, both, 9, 0));
+    // Too few words come first, however many pairs.
+    cases.push(refused("too few words and too many pairs", 2047, m(&own(513)), 1, 0));
+    cases
 }
 
 /// Document 01, "Run only". The operations answer alike.
@@ -410,4 +574,21 @@ pub fn test_apply() -> Vec<(Bytes, Bytes)> {
         ])
     };
     vec![first, second, third, (fourth(ty("crate::onemodule::Something")), fourth(id("Something")))]
+}
+
+#[cfg(test)]
+mod tests {
+    use super::*;
+
+    /// As the table of the proved cards says.
+    #[test]
+    fn lengths() {
+        let cards = proved_cards(Operation::Upstream);
+        let lengths: Vec<_> = cards.iter().map(|case| (case.card.len(), case.answer)).collect();
+        let accepted = [(13, 13), (31, 31), (80, 137), (195, 195), (207, 289), (244, 263), (109, 136)];
+        let mut due: Vec<_> = accepted.into_iter().map(|(card, output)| (card, Ok(output))).collect();
+        due.insert(3, (80, Err((9, 0))));
+        due.extend([(100, Ok(100)), (144, Ok(144)), (6, Err((4, 6))), (14, Err((7, 13))), (0, Err((4, 0)))]);
+        assert_eq!(lengths, due);
+    }
 }

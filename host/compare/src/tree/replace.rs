@@ -255,7 +255,7 @@ fn counted_as_spelled() {
     }
 
     let mut compared = 0;
-    for case in crate::random::Cards::new(11).take(4000) {
+    for case in crate::random::cases(11).take(4000) {
         let twice = [(); 2].map(|_| read(&case.card, &case.root, case.words));
         let [Ok((Module::Mod(mut counted), root)), Ok((Module::Mod(mut spelled), _))] = twice else {
             continue;

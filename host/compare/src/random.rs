@@ -3,6 +3,7 @@ use crate::cards::{brief, extern_module, kept, list, nested, only_types, path, r
 use crate::rows::{Place, Shape, What, DECLARATIONS, ROWS};
 use crate::{most_pairs, MOST_CARD, WORDS};
 
+/// A card with its root, and how many work words are lent.
 pub struct Case {
     pub root: Vec<u8>,
     pub card: Vec<u8>,
@@ -10,15 +11,17 @@ pub struct Case {
 }
 
 /// Numbers as if drawn.
-pub struct Draws(pub u64);
+pub struct Draws(u64);
 
 impl Draws {
+    /// Those of one case among the many of a seed.
+    pub fn new(seed: u64, number: usize) -> Draws {
+        Draws(mixed(mixed(seed) ^ number as u64))
+    }
+
     pub fn below(&mut self, n: usize) -> usize {
         self.0 = self.0.wrapping_add(0x9e37_79b9_7f4a_7c15);
-        let mut x = self.0;
-        x = (x ^ x >> 30).wrapping_mul(0xbf58_476d_1ce4_e5b9);
-        x = (x ^ x >> 27).wrapping_mul(0x94d0_49bb_1331_11eb);
-        ((x ^ x >> 31) >> 32) as usize % n
+        (mixed(self.0) >> 32) as usize % n
     }
 
     /// Once in n times.
@@ -33,6 +36,12 @@ impl Draws {
     fn bytes(&mut self, below: usize) -> Bytes {
         (0..self.below(below)).map(|_| self.below(256) as u8).collect()
     }
+}
+
+fn mixed(mut x: u64) -> u64 {
+    x = (x ^ x >> 30).wrapping_mul(0xbf58_476d_1ce4_e5b9);
+    x = (x ^ x >> 27).wrapping_mul(0x94d0_49bb_1331_11eb);
+    x ^ x >> 31
 }
 
 const NAMES: [&str; 22] = [
@@ -101,12 +110,33 @@ const NAMELESS_ROOTS: [&str; 6] = ["crate::", "::!", "::::a", "crate::!::a", "::
 /// Work words, too few of them and more than the least that suffice.
 const FEW_WORDS: [usize; 4] = [0, 1, 512, WORDS - 1];
 const MORE_WORDS: [usize; 14] =
-    [2049, 2051, 2052, 2055, 2056, 2800, 3000, 4092, 4095, 4096, 4097, 4100, 8192, MOST_WORDS];
-pub const MOST_WORDS: usize = 9999;
+    [2049, 2051, 2052, 2055, 2056, 2800, 3000, 4092, 4095, 4096, 4097, 4100, 8192, 9999];
 
-/// Cards without end, the same for the same seed.
-pub struct Cards {
-    draws: Draws,
+/// The cases of a seed, without end.
+pub fn cases(seed: u64) -> impl Iterator<Item = Case> {
+    (0..).map(move |number| case(&mut Draws::new(seed, number)))
+}
+
+/// The case that is drawn.
+pub fn case(draws: &mut Draws) -> Case {
+    let maker = Maker {
+        draws,
+        root: Vec::new(),
+        names: Vec::new(),
+        bases: Vec::new(),
+        prefixes: Vec::new(),
+        room: 0,
+        declarations: 0,
+        deepest: 0,
+        full: 0,
+        most: 0,
+    };
+    maker.case()
+}
+
+/// What makes one.
+struct Maker<'d> {
+    draws: &'d mut Draws,
     root: Bytes,
     /// From these the card draws.
     names: Vec<Bytes>,
@@ -123,22 +153,7 @@ pub struct Cards {
     most: usize,
 }
 
-impl Cards {
-    pub fn new(seed: u64) -> Self {
-        Cards {
-            draws: Draws(seed),
-            root: Vec::new(),
-            names: Vec::new(),
-            bases: Vec::new(),
-            prefixes: Vec::new(),
-            room: 0,
-            declarations: 0,
-            deepest: 0,
-            full: 0,
-            most: 0,
-        }
-    }
-
+impl Maker<'_> {
     fn name(&mut self) -> Bytes {
         match self.draws.below(40) {
             0 => self.draws.bytes(6),
@@ -422,10 +437,8 @@ fn pad(card: &mut Bytes, more: usize) {
     card.splice(12..12, std::iter::repeat_n(b' ', more));
 }
 
-impl Iterator for Cards {
-    type Item = Case;
-
-    fn next(&mut self) -> Option<Case> {
+impl Maker<'_> {
+    fn case(mut self) -> Case {
         self.names =
             (0..2 + self.draws.below(6)).map(|_| self.draws.of(&NAMES).as_bytes().to_vec()).collect();
         self.bases = (0..1 + self.draws.below(5)).map(|_| path(self.draws.of(&BASES))).collect();
@@ -464,6 +477,6 @@ impl Iterator for Cards {
             4 => root = path(self.draws.of(&NAMELESS_ROOTS)),
             _ => {}
         }
-        Some(Case { root, card, words })
+        Case { root, card, words }
     }
 }

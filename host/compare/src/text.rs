@@ -39,6 +39,11 @@ pub struct Vector {
     pub list: Vec<u32>,
 }
 
+/// How a line may look.
+pub const FORMS: &str = "ROOT CARD OUTLEN WORKLEN = ANSWER, \
+    old ROOT CARD OUTLEN WORKLEN PLACES = ANSWER or \
+    straight ROOT CARD OUTLEN WORKLEN PLACES x = ANSWER";
+
 type Fields<'l> = std::str::Split<'l, char>;
 
 /// What all forms have.
@@ -58,7 +63,7 @@ fn without_list(call: &mut Fields, answer: &mut Fields) -> Option<Vector> {
 
 /// A line that names no operation, or one that begins with it. Nothing else may stand there, nor a list
 /// of counts, which is not known here.
-fn vector(line: &str) -> Option<Vector> {
+pub fn vector(line: &str) -> Option<Vector> {
     let named = Operation::BOTH.into_iter().find_map(|operation| {
         let rest = line.strip_prefix(operation.word())?.strip_prefix(' ')?;
         Some((operation, rest))
@@ -159,9 +164,6 @@ pub fn folder(folder: &str) -> Result<Vec<File>, String> {
 
 /// The files, these being all in their order.
 fn latest(sources: Vec<Source>) -> Result<Vec<File>, String> {
-    const FORMS: &str = "ROOT CARD OUTLEN WORKLEN = ANSWER, \
-        old ROOT CARD OUTLEN WORKLEN PLACES = ANSWER or \
-        straight ROOT CARD OUTLEN WORKLEN PLACES x = ANSWER";
     let mut answers: HashMap<String, Vector> = HashMap::new();
     let mut files = Vec::new();
     for Source { request, replaces, name, text } in sources {

@@ -384,7 +384,22 @@ pub fn shorten(operation: Operation, card: &[u8], root: &[u8], out: &mut [u8], w
     Ok(output.len())
 }
 
-/// The same with a list: the number of its entries too, each two words, at the front of `list`.
+/// The whole output of an accepted card.
+pub struct Whole {
+    pub output: Vec<u8>,
+    /// Two words for each entry.
+    pub list: Vec<u32>,
+}
+
+/// What comes of a card where there is room for all of it: only 1 to 8 and 11 are refused.
+pub fn whole(operation: Operation, card: &[u8], root: &[u8], words: usize) -> Result<Whole, Refusal> {
+    let module = shortened(operation, card, root, words)?;
+    let mut places = Places::new();
+    let output = written(&module, Some(&mut places));
+    Ok(Whole { output, list: places.into_flattened() })
+}
+
+/// The same as `shorten` with a list: the number of its entries too, each two words, at the front of `list`.
 pub fn shorten_places(
     operation: Operation,
     card: &[u8],
@@ -393,12 +408,10 @@ pub fn shorten_places(
     words: usize,
     list: &mut [u32],
 ) -> Listed {
-    let module = shortened(operation, card, root, words)?;
-    let mut places = Places::new();
-    let output = written(&module, Some(&mut places));
-    let front = out.get_mut(..output.len()).ok_or((9, 0))?;
-    let entries = list.get_mut(..2 * places.len()).ok_or((10, 0))?;
-    front.copy_from_slice(&output);
-    entries.copy_from_slice(places.as_flattened());
-    Ok((output.len(), places.len()))
+    let whole = whole(operation, card, root, words)?;
+    let front = out.get_mut(..whole.output.len()).ok_or((9, 0))?;
+    let entries = list.get_mut(..whole.list.len()).ok_or((10, 0))?;
+    front.copy_from_slice(&whole.output);
+    entries.copy_from_slice(&whole.list);
+    Ok((whole.output.len(), whole.list.len() / 2))
 }

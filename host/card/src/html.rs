@@ -41,11 +41,11 @@ pub fn refused(file: &str, refused: &Refused) -> String {
             format!(
                 "<div class=\"line\"{}>{}<span class=\"refused\" role=\"alert\">&#9650; {mark}</span>{}</div>\n",
                 indent(line),
-                escaped(before),
-                escaped(behind)
+                code(before),
+                code(behind)
             )
         }
-        _ => format!("<div class=\"line\"{}>{}</div>\n", indent(line), escaped(&line.text())),
+        _ => format!("<div class=\"line\"{}>{}</div>\n", indent(line), code(&line.text())),
     };
     let lines: String = refused.shown.lines.iter().enumerate().map(line_of).collect();
     let why = escaped(&refused.refusal.to_string());
@@ -78,14 +78,14 @@ fn line_of(line: &Line) -> String {
         .spans
         .iter()
         .map(|span| {
-            let text = escaped(&span.text);
+            let text = code(&span.text);
             match &span.tint {
                 None => text,
                 Some(Tint::Long) => format!("<span class=\"long\">{text}</span>"),
                 Some(Tint::Use) => format!("<span class=\"use\">{text}</span>"),
                 Some(Tint::Short(path)) => format!(
                     "<span class=\"short\" tabindex=\"0\">{text}<span class=\"path\" role=\"tooltip\">{}</span></span>",
-                    escaped(path)
+                    code(path)
                 ),
             }
         })
@@ -93,18 +93,36 @@ fn line_of(line: &Line) -> String {
     format!("<div class=\"line\"{}>{spans}</div>", indent(line))
 }
 
-/// What is shown is printable ASCII already.
-fn escaped(text: &str) -> String {
+/// Code, which may be broken behind a call's parenthesis and not in an arrow.
+fn code(text: &str) -> String {
     let mut out = String::with_capacity(text.len());
-    for letter in text.chars() {
+    let mut before = ' ';
+    for (i, letter) in text.char_indices() {
         match letter {
-            '&' => out.push_str("&amp;"),
-            '<' => out.push_str("&lt;"),
-            '>' => out.push_str("&gt;"),
-            '"' => out.push_str("&quot;"),
-            '\'' => out.push_str("&#39;"),
-            _ => out.push(letter),
+            '-' if text[i..].starts_with("->") => out.push_str("<span class=\"arrow\">-"),
+            '>' if before == '-' => out.push_str("&gt;</span>"),
+            '(' if before.is_ascii_alphanumeric() => out.push_str("(<wbr>"),
+            _ => escape(letter, &mut out),
         }
+        before = letter;
     }
     out
+}
+
+fn escaped(text: &str) -> String {
+    let mut out = String::with_capacity(text.len());
+    text.chars().for_each(|letter| escape(letter, &mut out));
+    out
+}
+
+/// What is shown is printable ASCII already.
+fn escape(letter: char, out: &mut String) {
+    match letter {
+        '&' => out.push_str("&amp;"),
+        '<' => out.push_str("&lt;"),
+        '>' => out.push_str("&gt;"),
+        '"' => out.push_str("&quot;"),
+        '\'' => out.push_str("&#39;"),
+        _ => out.push(letter),
+    }
 }

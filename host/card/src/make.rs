@@ -56,7 +56,8 @@ struct Wrong {
 
 type Made = Result<Node<'static>, Wrong>;
 
-/// A sound card's text never has so many parentheses and records in each other.
+/// A sound card's text never has so many parentheses and records in each other. What is less deep is left to the reader, which
+/// knows the record that is too deep.
 const MOST_NESTED: usize = 2 * MOST_DEPTH + 4;
 
 /// A field that stands ahead of the word that tells what it is a field of.
@@ -161,7 +162,7 @@ impl<'t> Parser<'t> {
 
     fn branch(&self, at: usize, kind: u16, kids: Vec<Node<'static>>) -> Made {
         let node = Node::branch(at, kind, kids);
-        if node.height > MOST_DEPTH {
+        if node.height > 2 * MOST_NESTED {
             let refusal = Refusal { reason: Reason::TooDeep, place: 0 };
             return Err(Wrong { at, what: unsound(refusal) });
         }

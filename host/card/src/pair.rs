@@ -49,12 +49,16 @@ impl Shortening {
             Ok(listed) => listed,
             Err(refusal) => return Err(Box::new(refused(&reading, refusal))),
         };
+        let output = listed.output.to_vec();
+        let after = records::read_output(&output);
+        if let Some(refusal) = after.refusal {
+            return Err(Box::new(refused(&after, refusal)));
+        }
         let marks: HashMap<usize, Mark> =
             listed.places.iter().map(|place| (place.offset, place.mark)).collect();
-        let output = listed.output.to_vec();
         let uses = marks.values().filter(|mark| **mark == Mark::Use).count();
         let names = marks.len() - uses;
-        let rows = match (&reading.tree, &records::read_output(&output).tree) {
+        let rows = match (&reading.tree, &after.tree) {
             (Some(before), Some(after)) => rows(before, after, &marks),
             _ => Vec::new(),
         };

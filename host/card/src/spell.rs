@@ -104,7 +104,7 @@ pub fn operator(bytes: &[u8], bare: &[&str]) -> String {
 /// A Kept's bytes: in quotes where that can be read, else in hexadecimal.
 pub fn kept(bytes: &[u8]) -> String {
     let readable = bytes.iter().all(|byte| (b' '..=b'~').contains(byte));
-    if readable && bytes.len() != 1 {
+    if readable {
         return format!("#{}", quoted(bytes));
     }
     let digits: String = bytes.iter().map(|byte| format!("{byte:02X}")).collect();

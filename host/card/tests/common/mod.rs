@@ -2,7 +2,7 @@
 #![allow(dead_code)]
 
 use card::kinds::{self, rule, Class, Keeping, Shape, Spelling, What, KINDS};
-use card::records::{Node, MOST_DEPTH};
+use card::records::{self, Node, MOST_DEPTH};
 
 pub struct Draws(u64);
 
@@ -77,10 +77,15 @@ pub struct Trees<'d> {
     pub draws: &'d mut Draws,
     /// About how many records may still come.
     pub left: usize,
+    /// Many paths of few names, and no synonym.
+    pub paths: bool,
 }
 
 impl Trees<'_> {
     fn text(&mut self, spelling: Spelling) -> Vec<u8> {
+        if self.paths && spelling == Spelling::Name {
+            return self.draws.of(NAMES).to_vec();
+        }
         let plain = match spelling {
             Spelling::Unary | Spelling::Binary => self.draws.of(OPERATORS),
             Spelling::Number | Spelling::Size => self.draws.of(&[b"0" as &[u8], b"42", b"0x1F", b"N"]),
@@ -114,7 +119,19 @@ impl Trees<'_> {
 
     /// One that fits in the depth, and a small one where few are left.
     fn kind(&mut self, class: Class, depth: usize) -> u16 {
+        if self.paths && class == kinds::PATH && depth > 2 && !self.draws.once_in(3) {
+            return kinds::MEMBER;
+        }
+        if self.paths && self.left > 0 && depth > 4 && self.draws.once_in(2) {
+            match class {
+                kinds::TYPE => return 0x2D,
+                kinds::EXPR => return kinds::EXPR_FROM_PATH,
+                _ => {}
+            }
+        }
         let kinds: Vec<u16> = (class.first..=class.last).filter(|kind| least(*kind) <= depth).collect();
+        let kinds: Vec<u16> =
+            kinds.into_iter().filter(|kind| !self.paths || *kind != kinds::SYNONYM).collect();
         let small: Vec<u16> = kinds.iter().copied().filter(|kind| least(*kind) <= 4).collect();
         if self.left == 0 && !small.is_empty() {
             return small[self.draws.below(small.len())];
@@ -188,10 +205,19 @@ fn least_of(class: Class) -> usize {
 
 /// A sound card; every kind comes in some.
 pub fn sound_card(draws: &mut Draws) -> Vec<u8> {
+    some_card(draws, false)
+}
+
+/// A sound card that has much to shorten.
+pub fn card_of_paths(draws: &mut Draws) -> Vec<u8> {
+    some_card(draws, true)
+}
+
+fn some_card(draws: &mut Draws, paths: bool) -> Vec<u8> {
     loop {
         let left = [3, 10, 40, 200, 1000][draws.below(5)];
         let depth = [9, 12, 20, MOST_DEPTH][draws.below(4)];
-        let mut trees = Trees { draws, left };
+        let mut trees = Trees { draws, left, paths };
         let kind = if trees.draws.once_in(12) { 0x61 } else { 0x60 };
         let mut card = trees.of_kind(kind, depth);
         // Some more declarations, so that names meet.
@@ -229,4 +255,121 @@ pub fn damaged(draws: &mut Draws, bytes: &[u8]) -> Vec<u8> {
         }
     }
     bytes
+}
+
+/// What a command answered.
+pub struct Answer {
+    pub status: u8,
+    pub out: Vec<u8>,
+    pub errors: String,
+}
+
+/// A command in this process, with `input` as standard input.
+pub fn run(arguments: &[&str], input: &[u8]) -> Answer {
+    let arguments: Vec<std::ffi::OsString> = arguments.iter().map(|argument| argument.into()).collect();
+    let (mut out, mut errors) = (Vec::new(), Vec::new());
+    let mut around = card::command::Around {
+        input: &mut &input[..],
+        output: &mut out,
+        errors: &mut errors,
+        terminal: false,
+        no_color: false,
+        width: Some(80),
+    };
+    let status = card::command::run(&arguments, &mut around);
+    Answer { status, out, errors: String::from_utf8(errors).expect("messages are ASCII") }
+}
+
+/// One plain line where a command fails, and none where it does not.
+pub fn is_plain(answer: &Answer) {
+    if answer.status == 0 {
+        assert_eq!(answer.errors, "");
+        return;
+    }
+    let line = answer.errors.strip_suffix('\n').expect("a line ends");
+    assert!(!line.is_empty() && line.bytes().all(|byte| (b' '..=b'~').contains(&byte)), "{line:?}");
+}
+
+/// Nothing on a terminal but printable ASCII and new lines, and the tints if they are asked for.
+pub fn is_printable(out: &[u8], color: bool) {
+    let mut text = std::str::from_utf8(out).expect("ASCII").to_string();
+    if color {
+        for tint in ["\x1b[0m", "\x1b[33m", "\x1b[1;32m", "\x1b[36m", "\x1b[2m"] {
+            text = text.replace(tint, "");
+        }
+    }
+    let odd = text.bytes().find(|byte| !matches!(byte, b' '..=b'~' | b'\n'));
+    assert_eq!(odd, None, "{text}");
+}
+
+/// A file of any sort through every command.
+pub fn through_every_command(file: &[u8]) {
+    for arguments in [
+        &["show", "-"][..],
+        &["show", "--bytes", "-"],
+        &["shorten", "-"],
+        &["shorten", "-", "--straight", "--root", "::a", "--color", "always"],
+        &["html", "-"],
+    ] {
+        let answer = run(arguments, file);
+        is_plain(&answer);
+        is_printable(&answer.out, arguments.contains(&"always"));
+        let refused = records::read(file).refusal.is_some();
+        // A sound card may have too many names, but nothing else is refused.
+        if refused != (answer.status == 1) {
+            assert!(arguments[0] != "show" && answer.errors.contains("full table (8)"), "{}", answer.errors);
+        }
+    }
+    let answer = run(&["make", "-"], file);
+    is_plain(&answer);
+}
+
+/// A card damaged by its bytes, or one whose tree is not as it may be.
+pub fn damaged_card(draws: &mut Draws) -> Vec<u8> {
+    let card = sound_card(draws);
+    if draws.once_in(2) {
+        return damaged(draws, &card);
+    }
+    let mut tree = records::read(&card).tree.expect("a sound card has a tree");
+    let mut nth = draws.below(count(&tree));
+    spoil(draws, &mut tree, &mut nth);
+    tree.to_bytes()
+}
+
+fn count(node: &Node) -> usize {
+    1 + node.kids.iter().map(count).sum::<usize>()
+}
+
+/// The record met behind so many others.
+fn spoil(draws: &mut Draws, node: &mut Node, nth: &mut usize) {
+    if *nth > 0 {
+        *nth -= 1;
+        for kid in &mut node.kids {
+            let met = *nth == usize::MAX;
+            if met {
+                return;
+            }
+            spoil(draws, kid, nth);
+        }
+        return;
+    }
+    *nth = usize::MAX;
+    match draws.below(8) {
+        0 => node.kind = draws.below(0x90) as u16,
+        1 => node.kind ^= 1,
+        2 => drop(node.kids.pop()),
+        3 if !node.kids.is_empty() => {
+            let again = node.kids[draws.below(node.kids.len())].clone();
+            node.kids.push(again);
+        }
+        4 => node.bytes = b"!".into(),
+        5 => node.bytes = b"".into(),
+        6 => {
+            for _ in 0..draws.below(MOST_DEPTH) {
+                let wrapper = if kinds::TYPE.has(node.kind) { 0x2F } else { 0x45 };
+                *node = Node::branch(0, wrapper, vec![node.clone()]);
+            }
+        }
+        _ => node.kids.insert(0, Node::leaf(0, draws.below(4) as u16, &b"!"[..])),
+    }
 }

@@ -33,23 +33,26 @@ pub fn pair(file: &str, pair: &Pair, bytes: usize) -> String {
 }
 
 pub fn refused(file: &str, refused: &Refused) -> String {
-    let line_of = |(i, line): (usize, &Line)| match refused.shown.mark {
-        Some((marked, column)) if marked == i => {
-            let text = line.text();
-            let (before, behind) = text.split_at(column.min(text.len()));
-            let mark = escaped(&mark(refused.refusal));
-            format!(
-                "<div class=\"line\"{}>{}<span class=\"refused\" role=\"alert\">&#9650; {mark}</span>{}</div>\n",
-                indent(line),
-                code(before),
-                code(behind)
-            )
-        }
-        _ => format!("<div class=\"line\"{}>{}</div>\n", indent(line), code(&line.text())),
-    };
-    let lines: String = refused.shown.lines.iter().enumerate().map(line_of).collect();
+    let mut lines = String::new();
+    for (i, line) in refused.shown.lines.iter().enumerate() {
+        let (text, indent) = (line.text(), indent(line));
+        let mark = format!("<span class=\"refused\">&#9650; {}</span>", escaped(&mark(refused.refusal)));
+        let code = code(&text);
+        lines.push_str(&match refused.shown.mark {
+            Some((marked, column)) if marked == i && column < text.len() => {
+                format!(
+                    "<div class=\"line\"{indent}>{code}</div>\n<div class=\"line\"{indent}>{mark}</div>\n"
+                )
+            }
+            Some((marked, _)) if marked == i => format!("<div class=\"line\"{indent}>{code}{mark}</div>\n"),
+            _ => format!("<div class=\"line\"{indent}>{code}</div>\n"),
+        });
+    }
     let why = escaped(&refused.refusal.to_string());
-    page(file, &format!("<p class=\"why\">{why}</p>\n<main class=\"alone\">\n{lines}</main>\n"))
+    page(
+        file,
+        &format!("<p class=\"why\" role=\"alert\">{why}</p>\n<main class=\"alone\">\n{lines}</main>\n"),
+    )
 }
 
 fn page(file: &str, body: &str) -> String {

@@ -12,8 +12,10 @@ pub const GLOBAL: u16 = 0x10;
 pub const CRATE: u16 = 0x11;
 pub const SELF: u16 = 0x12;
 pub const MEMBER: u16 = 0x13;
+pub const TUPLE_TYPE: u16 = 0x33;
 pub const SYNONYM: u16 = 0x37;
 pub const SEQUENCE: u16 = 0x44;
+pub const TUPLE: u16 = 0x47;
 pub const EXPR_FROM_PATH: u16 = 0x5C;
 
 /// Kinds that may stand at the same place, from the first to the last number.
@@ -178,6 +180,11 @@ impl Rule {
             _ => false,
         }
     }
+}
+
+/// Whether what follows the pieces stands in braces, where statements may stand.
+pub fn opens_braces(pieces: &[Piece]) -> bool {
+    matches!(pieces.last(), Some(Piece::Words(words)) if words.ends_with("{ "))
 }
 
 fn pieces(pattern: &'static str) -> Vec<Piece> {

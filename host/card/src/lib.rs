@@ -1,4 +1,5 @@
 //! Cue cards as text, and what shortening makes of them, side by side.
+#![forbid(unsafe_code)]
 
 pub mod command;
 pub mod html;

@@ -1,3 +1,5 @@
+#![forbid(unsafe_code)]
+
 use card::command::{run, Around};
 use std::env;
 use std::ffi::OsString;

@@ -18,7 +18,7 @@ pub struct Fault {
 
 /// The bytes of the card that the text spells; it is a sound one.
 pub fn make(text: &[u8]) -> Result<Vec<u8>, Fault> {
-    let tree = Parser::new(text).card().map_err(|wrong| fault(text, wrong))?;
+    let tree = Parser::new(text).whole(kinds::MODULE).map_err(|wrong| fault(text, wrong))?;
     let (mut card, mut starts) = (Vec::new(), Vec::new());
     tree.write(&mut card, &mut starts);
     let Some(refusal) = records::read(&card).refusal else { return Ok(card) };
@@ -80,12 +80,8 @@ impl<'t> Parser<'t> {
         Parser { text, at: 0, nested: 0, leads: Vec::new() }
     }
 
-    fn card(mut self) -> Made {
-        self.whole(kinds::MODULE)
-    }
-
     fn whole(&mut self, class: Class) -> Made {
-        let tree = self.of(class, false)?;
+        let tree = self.of(class)?;
         self.blanks();
         if self.at < self.text.len() {
             return self.wrong("the end of the text is due here");
@@ -169,18 +165,23 @@ impl<'t> Parser<'t> {
         Ok(node)
     }
 
-    /// A record of the class; with statements before it, where these may stand.
-    fn of(&mut self, class: Class, statements: bool) -> Made {
+    fn of(&mut self, class: Class) -> Made {
         self.nested += 1;
         if self.nested > MOST_NESTED {
             return self.wrong(format!("this is nested more than {MOST_NESTED} deep"));
         }
-        let mut last = self.record(class)?;
-        let mut before = Vec::new();
-        while statements && self.takes(";") {
-            before.push(std::mem::replace(&mut last, self.record(class)?));
-        }
+        let made = self.record(class)?;
         self.nested -= 1;
+        Ok(made)
+    }
+
+    /// The first of some statements, and the others.
+    fn statements(&mut self, first: Node<'static>) -> Made {
+        let mut last = first;
+        let mut before = Vec::new();
+        while self.takes(";") {
+            before.push(std::mem::replace(&mut last, self.of(kinds::EXPR)?));
+        }
         let sequence = |rhs, stmt: Node<'static>| self.branch(stmt.at, kinds::SEQUENCE, vec![stmt, rhs]);
         before.into_iter().rev().try_fold(last, sequence)
     }
@@ -291,19 +292,24 @@ impl<'t> Parser<'t> {
 
     /// Behind an opening parenthesis: a tuple, a pattern that starts with one, or one record that stands in them.
     fn parentheses(&mut self, at: usize, class: Class) -> Made {
-        let tuple = if class == kinds::TYPE { 0x33 } else { 0x47 };
+        let tuple = if class == kinds::TYPE { kinds::TUPLE_TYPE } else { kinds::TUPLE };
         if self.takes(")") {
             let none = self.branch(at, kinds::LIST, Vec::new())?;
             return self.branch(at, tuple, vec![none]);
         }
-        let first = self.of(class, class == kinds::EXPR)?;
+        let first = self.of(class)?;
+        if class == kinds::EXPR && self.sees(";") {
+            let made = self.statements(first)?;
+            self.words(")")?;
+            return Ok(made);
+        }
         if self.takes(")") {
             return Ok(first);
         }
         if self.takes(",") {
             let mut items = vec![first];
             while !self.sees(")") {
-                items.push(self.of(class, false)?);
+                items.push(self.of(class)?);
                 if !self.takes(",") {
                     break;
                 }
@@ -364,7 +370,7 @@ impl<'t> Parser<'t> {
                     made.push(None);
                 }
                 Some(Piece::Field(n)) => {
-                    let statements = in_braces(&first.pieces[..i]);
+                    let statements = kinds::opens_braces(&first.pieces[..i]);
                     made.push(Some(self.field(&first.kind.fields[*n], statements)?));
                 }
                 Some(Piece::Maybe(n, inner)) if self.starts(first, inner) => {
@@ -372,7 +378,11 @@ impl<'t> Parser<'t> {
                     for (j, piece) in inner.iter().enumerate() {
                         match piece {
                             Piece::Words(words) => self.words(words)?,
-                            _ => field = Some(self.field(&first.kind.fields[*n], in_braces(&inner[..j]))?),
+                            _ => {
+                                field = Some(
+                                    self.field(&first.kind.fields[*n], kinds::opens_braces(&inner[..j]))?,
+                                )
+                            }
                         }
                     }
                     made.push(field);
@@ -440,7 +450,14 @@ impl<'t> Parser<'t> {
         match what {
             What::Text(spelling) => self.text(spelling),
             What::Kept(keeping) => self.kept(keeping),
-            What::Of(class) => self.of(class, statements),
+            What::Of(class) => {
+                let made = self.of(class)?;
+                if statements {
+                    self.statements(made)
+                } else {
+                    Ok(made)
+                }
+            }
         }
     }
 
@@ -458,7 +475,7 @@ impl<'t> Parser<'t> {
                 let node = match what {
                     What::Text(spelling) => self.text(spelling)?,
                     What::Kept(keeping) => self.kept(keeping)?,
-                    What::Of(class) => self.of(class, false)?,
+                    What::Of(class) => self.of(class)?,
                 };
                 self.leads.push(Lead { at, word, what, node });
             }
@@ -624,10 +641,6 @@ fn token(pieces: &[Piece]) -> &'static str {
         [Piece::Words(words), rest @ ..] => words.split_whitespace().next().unwrap_or_else(|| token(rest)),
         _ => "{",
     }
-}
-
-fn in_braces(pieces: &[Piece]) -> bool {
-    matches!(pieces.last(), Some(Piece::Words(words)) if words.ends_with("{ "))
 }
 
 /// Of a hexadecimal digit.

@@ -313,11 +313,9 @@ impl Writer<'_> {
             Spelling::Binary => spell::operator(&node.bytes, spell::BINARY),
             Spelling::Unary => {
                 let operator = spell::operator(&node.bytes, spell::UNARY);
-                let symbol = operator.len() == 1;
-                if symbol {
-                    operator
-                } else {
-                    operator + " "
+                match operator.len() {
+                    1 => operator,
+                    _ => operator + " ",
                 }
             }
             Spelling::Doc if node.bytes.is_empty() => String::new(),
@@ -416,11 +414,10 @@ fn behind(pieces: &[Piece], then: &'static str) -> &'static str {
 
 /// What stands around a piece, of which those before it are these.
 fn place(rule: &Rule, pieces: &[Piece], behind: &'static str) -> Place {
-    let in_braces = matches!(pieces.last(), Some(Piece::Words(words)) if words.ends_with("{ "));
     if pieces.is_empty() && rule.goes_on() {
         return Place::Before(behind);
     }
-    if in_braces || (rule.kind.number == kinds::SEQUENCE && !pieces.is_empty()) {
+    if kinds::opens_braces(pieces) || (rule.kind.number == kinds::SEQUENCE && !pieces.is_empty()) {
         return Place::Braces;
     }
     let ended = behind.is_empty() || behind.starts_with([')', ']', '}', ',', ';']);

@@ -171,15 +171,17 @@ impl Screen {
     }
 }
 
-/// Behind the last blank, if there is one in the second half; else where a name ends; else wherever the room ends.
+/// Behind the last blank, unless that leaves most of the room; else behind a bracket, between a path's names, or where the room
+/// ends.
 fn break_at(letters: &[(char, Style)]) -> usize {
     let letter = |at: usize| letters[at].0;
-    let fits = |at: &usize| *at > letters.len() / 2;
-    let blank = (1..letters.len()).rev().find(|at| letter(at - 1) == ' ').filter(fits);
-    let in_path = |at: &usize| letter(*at) == ':' && letter(at - 1) != ':';
-    let name =
-        || (1..letters.len()).rev().find(|at| in_path(at) || "(<,".contains(letter(at - 1))).filter(fits);
-    blank.or_else(name).unwrap_or(letters.len())
+    let last = |fits: &dyn Fn(usize) -> bool| {
+        (1..letters.len()).rev().find(|at| fits(*at)).filter(|at| *at > letters.len() / 4)
+    };
+    last(&|at| letter(at - 1) == ' ')
+        .or_else(|| last(&|at| matches!(letter(at - 1), '(' | '<')))
+        .or_else(|| last(&|at| letter(at) == ':' && letter(at - 1) != ':'))
+        .unwrap_or(letters.len())
 }
 
 /// A refusal beside the place that it is about.

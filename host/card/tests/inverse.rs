@@ -140,6 +140,8 @@ fn wrong_lines() {
             "refused, no name (11): the name that a path selects here is empty or '!' alone",
         ),
         ("mod m { impl <T> X for Y Z }", 1, 26, "`{` is due here, and not `Z`"),
+        ("mod m { const k: u8 = (a; b, c); }", 1, 28, "`)` is due here, and not `,`"),
+        ("mod m { const k: u8 = (a; b + c); }", 1, 29, "`)` is due here, and not `+`"),
         ("mod m { impl X z }", 1, 16, "`for` or `{` is due here, and not `z`"),
     ] {
         let fault = make::make(text.as_bytes()).expect_err(text);
@@ -158,4 +160,16 @@ fn unsound_texts() {
     let fault = make::make(format!("mod m {{\n{long}}}").as_bytes()).expect_err("too long");
     assert!(fault.what.starts_with("refused, long card (2): "), "{}", fault.what);
     assert!((400..800).contains(&fault.line), "{}", fault.line);
+}
+
+/// The first block under "The notation" in README.
+#[test]
+fn the_readme() {
+    let readme = include_str!("../README.md");
+    let notation = readme.split("## The notation").nth(1).expect("README tells the notation");
+    let block =
+        notation.lines().skip_while(|line| !line.starts_with("    ")).take_while(|line| !line.is_empty());
+    let text: String = block.map(|line| format!("{}\n", &line[4..])).collect();
+    let card = make::make(text.as_bytes()).expect("README's text");
+    assert_eq!(show::text(&records::read(&card).tree.expect("a tree")), text);
 }

@@ -199,24 +199,17 @@ fn show_card(options: &Options, around: &mut Around) -> Done {
     let card = options.read(vegashol::MOST_CARD, around)?;
     let reading = records::read(&card);
     if let Some(refusal) = reading.refusal {
-        let refused = pair::refused(&reading, refusal);
-        let screen =
-            Screen { width: around.width.filter(|_| around.terminal).unwrap_or(usize::MAX), color: false };
-        print(around, screen.refused(&refused).as_bytes())?;
+        let width = around.width.filter(|_| around.terminal).unwrap_or(usize::MAX);
+        let Refused { shown, .. } = pair::refused(&reading, refusal);
+        let tree = Screen { width, color: false }.tree(&shown, Some(refusal), options.bytes);
+        print(around, tree.as_bytes())?;
         return bad(options.refused(refusal, &card));
     }
     let Some(tree) = reading.tree else { return Ok(()) };
-    if !options.bytes {
-        return print(around, show::text(&tree).as_bytes());
-    }
     let shown = show::show(&tree, &show::Look::default());
-    let mut out = String::new();
-    for line in &shown.lines {
-        let at = line.at.map_or(String::new(), |at| at.to_string());
-        let indent = " ".repeat(show::INDENT * line.indent);
-        out.push_str(&format!("{at:>5}  {indent}{}\n", line.text()));
-    }
-    print(around, out.as_bytes())
+    // What `make` is to take is in whole lines, however long.
+    let screen = Screen { width: usize::MAX, color: false };
+    print(around, screen.tree(&shown, None, options.bytes).as_bytes())
 }
 
 fn make_card(options: &Options, around: &mut Around) -> Done {
@@ -262,7 +255,7 @@ fn shorten(options: &Options, around: &mut Around) -> Done {
             print(around, screen.pair(&pair, card.len()).as_bytes())
         }
         Err(refused) => {
-            print(around, screen.refused(&refused).as_bytes())?;
+            print(around, screen.tree(&refused.shown, Some(refused.refusal), false).as_bytes())?;
             bad(options.refused(refused.refusal, &card))
         }
     }

@@ -1,6 +1,6 @@
 //! Lines on a terminal.
 
-use crate::pair::{Pair, Refused, Row};
+use crate::pair::{Pair, Row};
 use crate::show::{Line, Shown, Tint, INDENT};
 use vegashol::Refusal;
 
@@ -13,6 +13,8 @@ pub struct Screen {
 
 const LEAST_WIDTH: usize = 24;
 const MOST_WIDTH: usize = 1_000;
+/// The column of offsets.
+const OFFSET: usize = 7;
 
 #[derive(Clone, Copy, PartialEq)]
 enum Style {
@@ -67,36 +69,34 @@ impl Screen {
         out
     }
 
-    /// A tree as far as it can be read, with a mark at the place of the refusal.
-    pub fn refused(&self, refused: &Refused) -> String {
-        self.marked(&refused.shown, refused.refusal)
-    }
-
-    fn marked(&self, shown: &Shown, refusal: Refusal) -> String {
+    /// A tree, with a mark at the place of a refusal. `bytes` puts the offset of each line's record ahead of it.
+    pub fn tree(&self, shown: &Shown, refusal: Option<Refusal>, bytes: bool) -> String {
         let mut out = String::new();
+        let ahead = |at: Option<usize>| match (bytes, at) {
+            (false, _) => String::new(),
+            (true, None) => " ".repeat(OFFSET),
+            (true, Some(at)) => format!("{at:>5}  "),
+        };
+        let width = if bytes { self.width() - OFFSET } else { self.width() };
         for (i, line) in shown.lines.iter().enumerate() {
-            let rows = self.wrapped(line, self.width());
-            let Some((_, column)) = shown.mark.filter(|(marked, _)| *marked == i) else {
-                for row in &rows {
-                    self.strip(&mut out, row);
-                    out.push('\n');
-                }
-                continue;
-            };
-            let mut left = column;
-            let mut marked = false;
+            let rows = self.wrapped(line, width);
+            let mut mark =
+                shown.mark.filter(|(marked, _)| *marked == i).map(|(_, column)| column).zip(refusal);
             for (j, row) in rows.iter().enumerate() {
                 if !row.letters.is_empty() {
+                    out.push_str(&ahead(line.at.filter(|_| j == 0)));
                     self.strip(&mut out, row);
                     out.push('\n');
                 }
+                let Some((column, refusal)) = mark else { continue };
                 let here = row.letters.len();
-                if !marked && (left <= here || j + 1 == rows.len()) {
-                    out.push_str(&" ".repeat(row.indent + left.min(here)));
-                    out.push_str(&format!("^ {}\n", mark(refusal)));
-                    marked = true;
+                mark = Some((column.saturating_sub(here), refusal));
+                if column <= here || j + 1 == rows.len() {
+                    out.push_str(&ahead(None));
+                    out.push_str(&" ".repeat(row.indent + column.min(here)));
+                    out.push_str(&format!("^ {}\n", self::mark(refusal)));
+                    mark = None;
                 }
-                left = left.saturating_sub(here);
             }
         }
         out
@@ -180,7 +180,7 @@ fn break_at(letters: &[(char, Style)]) -> usize {
     };
     last(&|at| letter(at - 1) == ' ')
         .or_else(|| last(&|at| matches!(letter(at - 1), '(' | '<')))
-        .or_else(|| last(&|at| letter(at) == ':' && letter(at - 1) != ':'))
+        .or_else(|| last(&|at| letter(at) == ':' && !matches!(letter(at - 1), ':' | '~')))
         .unwrap_or(letters.len())
 }
 

@@ -89,6 +89,25 @@ fn damaged_cards_through_every_command() {
     }
 }
 
+/// What `show` prints is the text that `make` takes, and with offsets the same behind them.
+#[test]
+fn shown_is_what_make_takes() {
+    let mut draws = Draws::new(6);
+    for _ in 0..500 {
+        let card = sound_card(&mut draws);
+        let text = show::text(&records::read(&card).tree.expect("a sound card has a tree"));
+        let shown = run(&["show", "-"], &card).out;
+        assert!(shown == text.as_bytes());
+        assert!(run(&["make", "-"], &shown).out == card);
+        let with_offsets = String::from_utf8(run(&["show", "-", "--bytes"], &card).out).expect("ASCII");
+        for (line, other) in text.lines().zip(with_offsets.lines()) {
+            assert_eq!(other[7..], *line);
+            let at: Option<usize> = other[..7].trim().parse().ok();
+            assert!(at.is_some_and(|at| at < card.len()) || line.trim() == "}", "{other}");
+        }
+    }
+}
+
 fn damaged_text(draws: &mut Draws) -> Vec<u8> {
     let card = sound_card(draws);
     let tree = records::read(&card).tree.expect("a sound card has a tree");

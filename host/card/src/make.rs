@@ -36,9 +36,7 @@ pub fn path(text: &[u8]) -> Result<Vec<u8>, Fault> {
 
 /// Without the place, which is one of a card that is not made.
 fn unsound(refusal: Refusal) -> String {
-    let line = refusal.to_string();
-    let words = line.split_once(": ").map_or("", |(_, words)| words);
-    format!("refused, {} ({}): {words}", refusal.word(), refusal.number())
+    format!("refused, {} ({}): {}", refusal.word(), refusal.number(), refusal.reason.words())
 }
 
 fn fault(text: &[u8], wrong: Wrong) -> Fault {

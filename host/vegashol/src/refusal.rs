@@ -54,7 +54,8 @@ impl Reason {
         matches!(self, ShortRecord | WrongKind | TooDeep | LeftOver | FullTable | NoName)
     }
 
-    fn words(self) -> &'static str {
+    /// What is wrong, in plain words.
+    pub fn words(self) -> &'static str {
         match self {
             Reason::ShortWork => "fewer than 2,048 work words were lent",
             Reason::LongCard => "the card has more than 32,768 bytes",

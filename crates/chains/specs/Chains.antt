@@ -69,6 +69,16 @@ module _ (s : Scope) where
   unfoldable pub isWanted : List ℕ → Bytes → Want → ℕ → Bool
   isWanted words name want i = eqb (numberAt words i) (numberOf (s .op) name) && hasNamed words name want i
 
+-- whether a word of a pair leaves open that the pair is sought: the number above the place is this one, or there is no place
+unfoldable pub mayBe : List ℕ → ℕ → ℕ → ℕ → Bool
+mayBe words field number i = eqb (getD words (4 * i + field) 0 / 65536) number || eqb (getD words (4 * i + field) 0 % 65536) 0
+
+-- the same by the word that tells most: that of the base, where a path of the card is sought, else that of the name
+unfoldable pub mayHave : List ℕ → ℕ → Want → ℕ → Bool
+mayHave words number Named = mayBe words 0 number
+mayHave words number (Based v) = cond (eqb (placeIn v) 0) (mayBe words 0 number) (mayBe words 2 (tagIn v))
+mayHave words number Runtime = mayBe words 0 number
+
 -- the first pair of the chain from pair g on that a test holds of; n bounds how many are looked at, and g suffices, since links fall
 unfoldable pub seekFrom : (ℕ → Bool) → List ℕ → ℕ → ℕ → ℕ
 seekFrom f words zero g = 0

@@ -6,7 +6,7 @@ use operation::Shortening;
 ghost use mathlib.Core.Path.{_≡_};
 ghost use Prim.Native.Nat.{_-_, _<_, _≤_};
 ghost use Rattle.prefix.specs.Prefix.{scope};
-ghost use Rattle.chains.specs.Chains.{room as Chains·room, numberOf, bucketOf, headOf, nextOf, hasWanted, isOther, isWanted, seek as Chains·seek};
+ghost use Rattle.chains.specs.Chains.{room as Chains·room, numberOf, bucketOf, headOf, nextOf, hasWanted, isOther, isWanted, mayBe, mayHave, seek as Chains·seek};
 
 // How many pairs words have room for: the number of a pair fits a half word.
 pub fn room(work: &[u32]) -> usize
@@ -144,6 +144,51 @@ fn is_wanted(
     has_wanted(op, card, root, chain, want, w)
 }
 
+// The first pair of the chain from a pair on of which the word at this field leaves open that it is sought: the number above the place is this one, or there
+// is no place. Under a name with many bases nearly every link is to the pair just ahead; told apart, such a link is not waited for.
+fn pass(work: &[u32], from: usize, field: usize, number: usize) -> usize
+    requires { ⌜ (from ≤ Chains·room (now work)) × (field < 4) ⌝ }
+    ensures { λ r. ⌜ r ≡ Chains·seek (mayBe (now (work .entry)) field number) (now (work .entry)) from ⌝ }
+{
+    let mut p = from;
+    while 0 < p {
+        let ahead = p - 1;
+        let k = 4 * ahead;
+        let w = wire::word(work[k + field]);
+        if w / 65536 == number {
+            return p;
+        }
+        if w % 65536 == 0 {
+            return p;
+        }
+        let l = wire::word(work[k + 3]) % 65536;
+        if l == ahead {
+            p = ahead;
+        } else {
+            if ahead < l {
+                return 0;
+            }
+            p = l;
+        }
+    }
+    0
+}
+
+// The first pair that the numbers alone do not tell from what is sought: that of the base, where it is a path of the card, else that of the name. Under one
+// name there can be many bases.
+fn skip(work: &[u32], from: usize, number: usize, want: Want) -> usize
+    requires { ⌜ from ≤ Chains·room (now work) ⌝ }
+    ensures { λ r. ⌜ r ≡ Chains·seek (mayHave (now (work .entry)) number want) (now (work .entry)) from ⌝ }
+{
+    let Want::Based(v) = want else {
+        return pass(work, from, 0, number);
+    };
+    if v % 65536 == 0 {
+        return pass(work, from, 0, number);
+    }
+    pass(work, from, 2, v / 65536)
+}
+
 // The first pair of the chain from pair g on that has this name and what is sought.
 pub fn seek(
     op: Shortening,
@@ -171,7 +216,8 @@ pub fn seek(
         if is_wanted(op, card, root, chain, work, g, name, number, want) {
             return g;
         }
-        g = next(work, g);
+        let after = next(work, g);
+        g = skip(work, after, number, want);
     }
     0
 }

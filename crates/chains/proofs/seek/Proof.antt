@@ -1,10 +1,11 @@
--- `chains::seek` meets its contract: what is left of the chain has what the whole has. Assumes nothing.
+-- `chains::seek` meets its contract: what is left of the chain has what the whole has, and no pair that is passed is sought. Assumes nothing.
 use mathlib.Core.Path.{_≡_}
+use Prim.Native.Nat.{_%_}
 use native.Mathlib.Omega.{arith}
 use borrow.Author.Needs.{needs}
 use Rattle.prefix.specs.Prefix.{scope}
-use Rattle.chains.specs.Chains.{numberOf, isWanted}
-use Rattle.chains.proofs.Tests.{Seeking, seek-past, seek-zero, seek-start, seek-none, seek-found, seek-next, next-less}
+use Rattle.chains.specs.Chains.{numberOf, isWanted, mayHave}
+use Rattle.chains.proofs.Tests.{Seeking, seek-past, seek-zero, seek-start, seek-none, seek-found, seek-on, next-less, may-wanted}
 use Rattle.chains.proofs.seek.Statement.{statement}
 use Rattle.chains.proofs.seek.Tie as tie
 use Rattle.chains.proofs.seek.Reads as reads
@@ -12,11 +13,12 @@ use Rattle.chains.proofs.seek.Lts as lts
 use Rattle.chains.proofs.is_wanted.Reads as is-wanted-reads
 use Rattle.chains.proofs.next.Reads as next-reads
 use Rattle.chains.proofs.room.Reads as room-reads
+use Rattle.chains.proofs.skip.Reads as skip-reads
 use Rattle.comparing.proofs.hash.Reads as hash-reads
 
 abbrev Inv-loop : tie.InvT-loop
-Inv-loop op card root chain work from name want number g₀ g =
-    Seeking (isWanted (scope op card root chain) work name want) work from g × (number ≡ numberOf op name)
+Inv-loop op card root chain work from name want number g₀ g = Seeking (isWanted (scope op card root chain) work name want) work from g ×
+    (number ≡ numberOf op name)
 
 abbrev μ-loop : tie.MeasureT-loop
 μ-loop op card root chain work from name want number g₀ g = g
@@ -72,24 +74,44 @@ returns-3 c =
 next-requires : tie.Need-next-requires Inv-loop μ-loop
 next-requires c κs = search needs
 
-loop-less : tie.Need-loop-less Inv-loop μ-loop
-loop-less c =
+skip-requires : tie.Need-skip-requires Inv-loop μ-loop
+skip-requires c κs =
     let args = c .before .before .before .before .before .before .before .before .before .before .before .before .before .before .args in
     let loop = c .before .before .before .before .loop in
     let loop-test = c .before .before .before .loop-test in
     let next = c .next in
-    let l = next-less (args .work .now) (loop .g) (loop-test .taken) in let e = next .ensures in omega arith
+    let l = next-less (args .work .now) (loop .g) (loop-test .taken) in
+    let i = loop .inv .0 .inside in
+    let e = next .ensures in
+    omega arith
+
+loop-less : tie.Need-loop-less Inv-loop μ-loop
+loop-less c =
+    let args = c .before .before .before .before .before .before .before .before .before .before .before .before .before .before .before .args in
+    let loop = c .before .before .before .before .before .loop in
+    let loop-test = c .before .before .before .before .loop-test in
+    let is-wanted = c .before .before .before .is-wanted in
+    let if3 = c .before .before .if3 in
+    let next = c .before .next in
+    let skip = c .skip in
+    seek-on (mayHave (args .work .now) _ (args .want)) (isWanted (scope (args .op) (args .card .now) (args .root .now) (args .chain .now))
+    (args .work .now) (args .name .now) (args .want)) (λ i. may-wanted (scope (args .op) (args .card .now) (args .root .now) (args .chain .now))
+    (args .work .now) (args .name .now) _ (loop .inv .1) i (args .want)) (args .work .now) (args .from) _ (loop .inv .0) (loop-test .taken) _
+    (is-wanted .ensures) (if3 .left) _ (next .ensures) _ (skip .ensures) .1
 
 loop-again : tie.Need-loop-again Inv-loop μ-loop
 loop-again c =
-    let args = c .before .before .before .before .before .before .before .before .before .before .before .before .before .before .args in
-    let loop = c .before .before .before .before .loop in
-    let loop-test = c .before .before .before .loop-test in
-    let is-wanted = c .before .before .is-wanted in
-    let if3 = c .before .if3 in
-    let next = c .next in (
-      seek-next (isWanted (scope (args .op) (args .card .now) (args .root .now) (args .chain .now)) (args .work .now) (args .name .now) (args .want))
-          (args .work .now) (args .from) _ (loop .inv .0) (loop-test .taken) _ (is-wanted .ensures) (if3 .left) _ (next .ensures),
+    let args = c .before .before .before .before .before .before .before .before .before .before .before .before .before .before .before .args in
+    let loop = c .before .before .before .before .before .loop in
+    let loop-test = c .before .before .before .before .loop-test in
+    let is-wanted = c .before .before .before .is-wanted in
+    let if3 = c .before .before .if3 in
+    let next = c .before .next in
+    let skip = c .skip in (
+      seek-on (mayHave (args .work .now) _ (args .want)) (isWanted (scope (args .op) (args .card .now) (args .root .now) (args .chain .now))
+          (args .work .now) (args .name .now) (args .want)) (λ i. may-wanted (scope (args .op) (args .card .now) (args .root .now) (args .chain .now))
+          (args .work .now) (args .name .now) _ (loop .inv .1) i (args .want)) (args .work .now) (args .from) _ (loop .inv .0) (loop-test .taken) _
+          (is-wanted .ensures) (if3 .left) _ (next .ensures) _ (skip .ensures) .0,
       loop .inv .1,
     )
 
@@ -115,6 +137,7 @@ seek-spec =
     is-wanted-requires
     returns-3
     next-requires
+    skip-requires
     loop-less
     loop-again
     returns-4)

@@ -17,17 +17,22 @@ use Rattle.prefix.specs.Prefix.{Scope}
 use Rattle.comparing.specs.Compares.{hash, placeIn, tagIn, sameBase}
 use Rattle.chains.specs.declared.Want.{Want}
 use Rattle.chains.specs.declared.Want.the-variants.{Named, Based, Runtime}
-use Rattle.chains.specs.Chains.{room, nameAt, numberAt, numberOf, wordAt, linkAt, bucketOf, headOf, nextOf, hasWanted, isOther, hasNamed, isWanted}
+use Rattle.chains.specs.Chains.{room, nameAt, numberAt, numberOf, wordAt, linkAt, bucketBy, bucketOf, headOf, nextOf, hasWanted, isOther, hasNamed, isWanted}
 use Rattle.chains.specs.Chains.{mayBe, mayHave, seekFrom, seek}
 
-module _ (op : Shortening) (words : List ℕ) (name : Bytes) (n : ℕ) (e : n ≡ room words) where
-  pub bucket-none : n ≡ 0 → 0 ≡ bucketOf op words name
-  unfolding bucketOf
+module _ (words : List ℕ) (h n : ℕ) (e : n ≡ room words) where
+  pub bucket-none : n ≡ 0 → 0 ≡ bucketBy words h
+  unfolding bucketBy
   bucket-none z = rw (eq-eqb (room words) 0 (sym e ∙ z))
 
-  pub bucket-some : (n ≡ 0 → ⊥) → (h : ℕ) → (h ≡ hash op name) × (h < 2 ^ 32) → h / 65536 % n ≡ bucketOf op words name
-  unfolding bucketOf
-  bucket-some z h f = rw (e, f .0, ne-eqb (room words) 0 (λ y. z (e ∙ y)))
+  pub bucket-some : (n ≡ 0 → ⊥) → h / 65536 % n ≡ bucketBy words h
+  unfolding bucketBy
+  bucket-some z = rw (e, ne-eqb (room words) 0 (λ y. z (e ∙ y)))
+
+-- a name's bucket, by its hash
+pub bucket-is : (op : Shortening) (words : List ℕ) (name : Bytes) (h r : ℕ) → h ≡ hash op name → r ≡ bucketBy words h → r ≡ bucketOf op words name
+unfolding bucketBy bucketOf
+bucket-is op words name h r e f = f ∙ rw e
 
 module _ (words : List ℕ) (b n : ℕ) (e : n ≡ room words) where
   pub head-some : b < n → (w : ℕ) → (w ≡ getD words (4 * b + 3) 0) × (w < 2 ^ 32) → (w / 65536 ≡ headOf words b) × (w / 65536 < 65536)

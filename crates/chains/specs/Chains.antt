@@ -38,6 +38,10 @@ headAt words i = getD words (4 * i + 3) 0 / 65536
 abbrev pub numberOf : Shortening → Bytes → ℕ
 numberOf op name = hash op name % 65536
 
+-- the bucket that a hash says
+unfoldable pub bucketBy : List ℕ → ℕ → ℕ
+bucketBy words h = cond (eqb (room words) 0) 0 (h / 65536 % room words)
+
 -- the bucket of a name, by the upper half of its hash, a bucket's newest pair, and the pair after pair g, by their numbers from 1 on
 unfoldable pub bucketOf : Shortening → List ℕ → Bytes → ℕ
 bucketOf op words name = cond (eqb (room words) 0) 0 (hash op name / 65536 % room words)

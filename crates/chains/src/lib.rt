@@ -6,7 +6,7 @@ use operation::Shortening;
 ghost use mathlib.Core.Path.{_≡_};
 ghost use Prim.Native.Nat.{_-_, _<_, _≤_};
 ghost use Rattle.prefix.specs.Prefix.{scope};
-ghost use Rattle.chains.specs.Chains.{room as Chains·room, numberOf, bucketOf, headOf, nextOf, hasWanted, isOther, isWanted, mayBe, mayHave, seek as Chains·seek};
+ghost use Rattle.chains.specs.Chains.{room as Chains·room, numberOf, bucketBy, bucketOf, headOf, nextOf, hasWanted, isOther, isWanted, mayBe, mayHave, seek as Chains·seek};
 
 // How many pairs words have room for: the number of a pair fits a half word.
 pub fn room(work: &[u32]) -> usize
@@ -19,15 +19,21 @@ pub fn room(work: &[u32]) -> usize
     n
 }
 
-// The bucket of a name.
-pub fn bucket(op: Shortening, work: &[u32], name: &[u8]) -> usize
-    ensures { λ r. ⌜ r ≡ bucketOf op (now (work .entry)) (now (name .entry)) ⌝ }
+// The bucket of a name, by its hash.
+pub fn bucket_by(work: &[u32], hash: usize) -> usize
+    ensures { λ r. ⌜ r ≡ bucketBy (now (work .entry)) hash ⌝ }
 {
     let n = room(work);
     if n == 0 {
         return 0;
     }
-    comparing::hash(op, name) / 65536 % n
+    hash / 65536 % n
+}
+
+pub fn bucket(op: Shortening, work: &[u32], name: &[u8]) -> usize
+    ensures { λ r. ⌜ r ≡ bucketOf op (now (work .entry)) (now (name .entry)) ⌝ }
+{
+    bucket_by(work, comparing::hash(op, name))
 }
 
 // The newest pair of a bucket.
@@ -189,6 +195,60 @@ fn skip(work: &[u32], from: usize, number: usize, want: Want) -> usize
     pass(work, from, 2, v / 65536)
 }
 
+// The first pair of the chain from a pair on that has this name and what is sought.
+fn seek_some(
+    op: Shortening,
+    card: &[u8],
+    root: &[u8],
+    chain: &[usize],
+    work: &[u32],
+    from: usize,
+    name: &[u8],
+    number: usize,
+    want: Want,
+) -> usize
+    requires { ⌜ number ≡ numberOf op (now name) ⌝ }
+    ensures { λ r. ⌜ r ≡ Chains·seek
+        (isWanted (scope op (now (card .entry)) (now (root .entry)) (now (chain .entry))) (now (work .entry)) (now (name .entry)) want)
+        (now (work .entry)) from ⌝ }
+{
+    if room(work) < from {
+        return 0;
+    }
+    let mut g = from;
+    while 0 < g {
+        if is_wanted(op, card, root, chain, work, g, name, number, want) {
+            return g;
+        }
+        let after = next(work, g);
+        g = skip(work, after, number, want);
+    }
+    0
+}
+
+// The same, for a caller that has the number of the name. Most chains end where they begin: those cost no call.
+pub fn seek_by(
+    op: Shortening,
+    card: &[u8],
+    root: &[u8],
+    chain: &[usize],
+    work: &[u32],
+    from: usize,
+    name: &[u8],
+    number: usize,
+    want: Want,
+) -> usize
+    requires { ⌜ number ≡ numberOf op (now name) ⌝ }
+    ensures { λ r. ⌜ r ≡ Chains·seek
+        (isWanted (scope op (now (card .entry)) (now (root .entry)) (now (chain .entry))) (now (work .entry)) (now (name .entry)) want)
+        (now (work .entry)) from ⌝ }
+{
+    if from == 0 {
+        return 0;
+    }
+    seek_some(op, card, root, chain, work, from, name, number, want)
+}
+
 // The first pair of the chain from pair g on that has this name and what is sought.
 pub fn seek(
     op: Shortening,
@@ -204,20 +264,9 @@ pub fn seek(
         (isWanted (scope op (now (card .entry)) (now (root .entry)) (now (chain .entry))) (now (work .entry)) (now (name .entry)) want)
         (now (work .entry)) from ⌝ }
 {
-    if room(work) < from {
-        return 0;
-    }
     if from == 0 {
         return 0;
     }
     let number = comparing::hash(op, name) % 65536;
-    let mut g = from;
-    while 0 < g {
-        if is_wanted(op, card, root, chain, work, g, name, number, want) {
-            return g;
-        }
-        let after = next(work, g);
-        g = skip(work, after, number, want);
-    }
-    0
+    seek_by(op, card, root, chain, work, from, name, number, want)
 }

@@ -17,7 +17,7 @@ use Rattle.prefix.specs.Prefix.{Scope}
 use Rattle.comparing.specs.Compares.{hash, placeIn, tagIn, sameBase}
 use Rattle.chains.specs.declared.Want.{Want}
 use Rattle.chains.specs.declared.Want.the-variants.{Named, Based, Runtime}
-use Rattle.chains.specs.Chains.{room, nameAt, numberAt, numberOf, wordAt, linkAt, bucketBy, bucketOf, headOf, nextOf, hasWanted, isOther, hasNamed, isWanted}
+use Rattle.chains.specs.Chains.{room, nameAt, numberAt, numberOf, wordAt, linkAt, bucketBy, bucketOf, headOf, nextOf, hasWanted, isOther, hasNamed, isWanted, isNumbered}
 use Rattle.chains.specs.Chains.{mayBe, mayHave, seekFrom, seek}
 
 module _ (words : List ℕ) (h n : ℕ) (e : n ≡ room words) where
@@ -115,11 +115,11 @@ module _ (s : Scope) where
   other-not (Based v) w e = rw (not-true (eqb (placeIn w) 0 || (eqb (placeIn v) 0 || eqb (tagIn w) (tagIn v))) e)
   other-not Runtime w e = cc
 
-  pub wanted-passed : (words : List ℕ) (name : Bytes) (want : Want) (i w : ℕ) (t : Bool) → w ≡ wordAt words i → t ≡ isOther want w → t ≡ true
-      → false ≡ isWanted s words name want i
-  unfolding isWanted hasNamed
-  wanted-passed words name want i w t h e y =
-      rw (← h, other-not want w (sym e ∙ y), and-false, and-false (eqb (numberAt words i) (numberOf (s .op) name)))
+  pub wanted-passed : (words : List ℕ) (name : Bytes) (number : ℕ) (want : Want) (i w : ℕ) (t : Bool) → w ≡ wordAt words i → t ≡ isOther want w → t ≡ true
+      → false ≡ isNumbered s words name number want i
+  unfolding isNumbered hasNamed
+  wanted-passed words name number want i w t h e y =
+      rw (← h, other-not want w (sym e ∙ y), and-false, and-false (eqb (numberAt words i) number))
 
   module _ (want : Want) (w : ℕ) where
     pub wanted-named : want ≡ Named → true ≡ hasWanted s want w
@@ -141,27 +141,33 @@ module _ (s : Scope) where
       runtime-path z x r f g = g ∙ rw (e, f, ne-eqb (w % 65536) 0 z)
 
   -- a pair by its first three words
-  module _ (words : List ℕ) (name : Bytes) (want : Want) (i v : ℕ) (a : v ≡ getD words (4 * i) 0) (n : ℕ) (m : n ≡ numberOf (s .op) name) where
-    pub wanted-number : (v / 65536 ≡ n → ⊥) → false ≡ isWanted s words name want i
-    unfolding isWanted
-    wanted-number d = rw (← a, ← m, ne-eqb (v / 65536) n d)
+  module _ (words : List ℕ) (name : Bytes) (n : ℕ) (want : Want) (i v : ℕ) (a : v ≡ getD words (4 * i) 0) where
+    pub wanted-number : (v / 65536 ≡ n → ⊥) → false ≡ isNumbered s words name n want i
+    unfolding isNumbered
+    wanted-number d = rw (← a, ne-eqb (v / 65536) n d)
 
     module _ (q : v / 65536 ≡ n) (len : ℕ) (own : Bytes) (t : Bool) (l : len ≡ getD words (4 * i + 1) 0)
         (e : own ≡ take len (drop (v % 65536) (s .card))) (f : t ≡ operationOf (s .op) .sameName own name) where
       named : t ≡ operationOf (s .op) .sameName (nameAt (s .card) words i) name
       named = f ∙ ap (λ (x : Bytes). operationOf (s .op) .sameName x name) (e ∙ rw (a, l))
 
-      numbered : isWanted s words name want i ≡ hasNamed s words name want i
-      unfolding isWanted
-      numbered = rw (eq-eqb (numberAt words i) (numberOf (s .op) name) (ap (λ (x : ℕ). x / 65536) (sym a) ∙ q ∙ m))
+      numbered : isNumbered s words name n want i ≡ hasNamed s words name want i
+      unfolding isNumbered
+      numbered = rw (eq-eqb (numberAt words i) n (ap (λ (x : ℕ). x / 65536) (sym a) ∙ q))
 
-      pub wanted-other : not t ≡ true → false ≡ isWanted s words name want i
+      pub wanted-other : not t ≡ true → false ≡ isNumbered s words name n want i
       unfolding hasNamed
       wanted-other d = rw (numbered, ← named, not-true t d)
 
-      pub wanted-same : not t ≡ false → (w : ℕ) (r : Bool) → w ≡ wordAt words i → r ≡ hasWanted s want w → r ≡ isWanted s words name want i
+      pub wanted-same : not t ≡ false → (w : ℕ) (r : Bool) → w ≡ wordAt words i → r ≡ hasWanted s want w → r ≡ isNumbered s words name n want i
       unfolding hasNamed
       wanted-same d w r h g = g ∙ rw (numbered, ← named, not-false t d, h)
+
+  -- by the name's own number
+  pub seek-is : (words : List ℕ) (name : Bytes) (h : ℕ) (want : Want) (from r : ℕ) → h ≡ hash (s .op) name
+      → r ≡ seek (isNumbered s words name (h % 65536) want) words from → r ≡ seek (isWanted s words name want) words from
+  unfolding isNumbered isWanted
+  seek-is words name h want from r m e = e ∙ rw m
 
 -- a pair that a word leaves open, or passes
 module _ (words : List ℕ) (field number i w : ℕ) (a : w ≡ getD words (4 * i + field) 0) where
@@ -208,23 +214,23 @@ may-false : (words : List ℕ) (field number i : ℕ) → mayBe words field numb
 unfolding mayBe
 may-false words field number i e = none-of (eqb (getD words (4 * i + field) 0 / 65536) number) (eqb (getD words (4 * i + field) 0 % 65536) 0) e
 
-module _ (s : Scope) (words : List ℕ) (name : Bytes) (number : ℕ) (m : number ≡ numberOf (s .op) name) (i : ℕ) where
-  number-not : (want : Want) → mayBe words 0 number i ≡ false → isWanted s words name want i ≡ false
+module _ (s : Scope) (words : List ℕ) (name : Bytes) (number i : ℕ) where
+  number-not : (want : Want) → mayBe words 0 number i ≡ false → isNumbered s words name number want i ≡ false
   number-not want e =
       let k : 4 * i + 0 ≡ 4 * i = omega arith in
-      sym (wanted-number s words name want i (getD words (4 * i + 0) 0) (ap (λ (j : ℕ). getD words j 0) k) number m
+      sym (wanted-number s words name number want i (getD words (4 * i + 0) 0) (ap (λ (j : ℕ). getD words j 0) k)
       (eqb-false (getD words (4 * i + 0) 0 / 65536) number (may-false words 0 number i e .0)))
 
   other : (v : ℕ) → eqb (placeIn v) 0 ≡ false → mayBe words 2 (tagIn v) i ≡ false → isOther (Based v) (wordAt words i) ≡ true
   unfolding isOther
   other v z h = let d = may-false words 2 (tagIn v) i h in rw (d .1, z, d .0)
 
-  pub may-wanted : (want : Want) → mayHave words number want i ≡ false → isWanted s words name want i ≡ false
+  pub may-wanted : (want : Want) → mayHave words number want i ≡ false → isNumbered s words name number want i ≡ false
   unfolding mayHave
   may-wanted Named e = number-not Named e
   may-wanted (Based v) e =
       by-test (eqb (placeIn v) 0) (λ z. number-not (Based v) (rw z at e))
-      (λ z. sym (wanted-passed s words name (Based v) i (wordAt words i) (isOther (Based v) (wordAt words i)) refl refl (other v z (rw z at e))))
+      (λ z. sym (wanted-passed s words name number (Based v) i (wordAt words i) (isOther (Based v) (wordAt words i)) refl refl (other v z (rw z at e))))
   may-wanted Runtime e = number-not Runtime e
 
 -- seeking: what is left of a chain has what the whole has

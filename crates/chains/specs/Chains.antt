@@ -73,6 +73,10 @@ module _ (s : Scope) where
   unfoldable pub isWanted : List ℕ → Bytes → Want → ℕ → Bool
   isWanted words name want i = eqb (numberAt words i) (numberOf (s .op) name) && hasNamed words name want i
 
+  -- the same by a number that is taken for the name's
+  unfoldable pub isNumbered : List ℕ → Bytes → ℕ → Want → ℕ → Bool
+  isNumbered words name number want i = eqb (numberAt words i) number && hasNamed words name want i
+
 -- whether a word of a pair leaves open that the pair is sought: the number above the place is this one, or there is no place
 unfoldable pub mayBe : List ℕ → ℕ → ℕ → ℕ → Bool
 mayBe words field number i = eqb (getD words (4 * i + field) 0 / 65536) number || eqb (getD words (4 * i + field) 0 % 65536) 0

@@ -6,7 +6,7 @@ use operation::Shortening;
 ghost use mathlib.Core.Path.{_≡_};
 ghost use Prim.Native.Nat.{_-_, _<_, _≤_};
 ghost use Rattle.prefix.specs.Prefix.{scope};
-ghost use Rattle.chains.specs.Chains.{room as Chains·room, numberOf, bucketBy, bucketOf, headOf, nextOf, hasWanted, isOther, isWanted, mayBe, mayHave, seek as Chains·seek};
+ghost use Rattle.chains.specs.Chains.{room as Chains·room, bucketBy, bucketOf, headOf, nextOf, hasWanted, isOther, isWanted, isNumbered, mayBe, mayHave, seek as Chains·seek};
 
 // How many pairs words have room for: the number of a pair fits a half word.
 pub fn room(work: &[u32]) -> usize
@@ -130,9 +130,9 @@ fn is_wanted(
     number: usize,
     want: Want,
 ) -> bool
-    requires { ⌜ (0 < g) × (g ≤ Chains·room (now work)) × (number ≡ numberOf op (now name)) ⌝ }
+    requires { ⌜ (0 < g) × (g ≤ Chains·room (now work)) ⌝ }
     ensures { λ r. ⌜ r
-        ≡ isWanted (scope op (now (card .entry)) (now (root .entry)) (now (chain .entry))) (now (work .entry)) (now (name .entry)) want (g - 1) ⌝ }
+        ≡ isNumbered (scope op (now (card .entry)) (now (root .entry)) (now (chain .entry))) (now (work .entry)) (now (name .entry)) number want (g - 1) ⌝ }
 {
     let k = 4 * (g - 1);
     let w = wire::word(work[k + 2]);
@@ -195,7 +195,7 @@ fn skip(work: &[u32], from: usize, number: usize, want: Want) -> usize
     pass(work, from, 2, v / 65536)
 }
 
-// The first pair of the chain from a pair on that has this name and what is sought.
+// The first pair of the chain from a pair on that has this name, by this number, and what is sought.
 fn seek_some(
     op: Shortening,
     card: &[u8],
@@ -207,9 +207,8 @@ fn seek_some(
     number: usize,
     want: Want,
 ) -> usize
-    requires { ⌜ number ≡ numberOf op (now name) ⌝ }
     ensures { λ r. ⌜ r ≡ Chains·seek
-        (isWanted (scope op (now (card .entry)) (now (root .entry)) (now (chain .entry))) (now (work .entry)) (now (name .entry)) want)
+        (isNumbered (scope op (now (card .entry)) (now (root .entry)) (now (chain .entry))) (now (work .entry)) (now (name .entry)) number want)
         (now (work .entry)) from ⌝ }
 {
     if room(work) < from {
@@ -226,7 +225,7 @@ fn seek_some(
     0
 }
 
-// The same, for a caller that has the number of the name. Most chains end where they begin: those cost no call.
+// The same, for a caller that says the number of the name. Most chains end where they begin: those cost no call.
 pub fn seek_by(
     op: Shortening,
     card: &[u8],
@@ -238,9 +237,8 @@ pub fn seek_by(
     number: usize,
     want: Want,
 ) -> usize
-    requires { ⌜ number ≡ numberOf op (now name) ⌝ }
     ensures { λ r. ⌜ r ≡ Chains·seek
-        (isWanted (scope op (now (card .entry)) (now (root .entry)) (now (chain .entry))) (now (work .entry)) (now (name .entry)) want)
+        (isNumbered (scope op (now (card .entry)) (now (root .entry)) (now (chain .entry))) (now (work .entry)) (now (name .entry)) number want)
         (now (work .entry)) from ⌝ }
 {
     if from == 0 {

@@ -1,6 +1,6 @@
 -- `adding::add` meets its contract, case by case. Assumes nothing.
 use Rattle.prefix.specs.Prefix.{scope}
-use Rattle.chains.proofs.Tests.{bucket-is}
+use Rattle.chains.proofs.Tests.{bucket-is, seek-is}
 use Rattle.adding.proofs.Tests.{add-full, add-old, add-past, add-room, add-new}
 use borrow.Author.Needs.{needs}
 use Rattle.adding.proofs.add.Statement.{statement}
@@ -76,7 +76,7 @@ returns-2 c =
     add-old (scope (args .op) (args .card .now) (args .root .now) (args .chain .now)) (args .work .now) (args .n) (args .at) (args .len) (args .base) _
     (room .ensures) (if1 .left) _ _ (word .ensures .0) (word2 .ensures .0) _ (part .ensures) _ _ _ _ (bucket-is _ _ _ _ _ (hash .ensures .0)
     (bucket-by .ensures))
-    (base-word .ensures .0) (head .ensures .0) (seek-by .ensures) (if2 .taken)
+    (base-word .ensures .0) (head .ensures .0) (seek-is (scope (args .op) (args .card .now) (args .root .now) (args .chain .now)) (args .work .now) (part .result .now) _ _ _ _ (hash .ensures .0) (seek-by .ensures)) (if2 .taken)
 
 add-result : tie.Need-add-result
 add-result c = search needs
@@ -103,7 +103,7 @@ returns-3 c =
     add-past (scope (args .op) (args .card .now) (args .root .now) (args .chain .now)) (args .work .now) (args .n) (args .at) (args .len) (args .base) _
     (room .ensures) (if1 .left) _ _ (word .ensures .0) (word2 .ensures .0) _ (part .ensures) _ _ _ _ (bucket-is _ _ _ _ _ (hash .ensures .0)
     (bucket-by .ensures))
-    (base-word .ensures .0) (head .ensures .0) (seek-by .ensures) (if2 .left) (if3 .taken)
+    (base-word .ensures .0) (head .ensures .0) (seek-is (scope (args .op) (args .card .now) (args .root .now) (args .chain .now)) (args .work .now) (part .result .now) _ _ _ _ (hash .ensures .0) (seek-by .ensures)) (if2 .left) (if3 .taken)
 
 mul-named : tie.Need-mul-named
 mul-named c = search needs
@@ -136,7 +136,7 @@ put-requires c κs =
     add-room (scope (args .op) (args .card .now) (args .root .now) (args .chain .now)) (args .work .now) (args .n) (args .at) (args .len) (args .base) _
     (room .ensures) (if1 .left) _ _ (word .ensures .0) (word2 .ensures .0) _ (part .ensures) _ _ _ _ (bucket-is _ _ _ _ _ (hash .ensures .0)
     (bucket-by .ensures))
-    (base-word .ensures .0) (head .ensures .0) (seek-by .ensures) (if2 .left) (if3 .left)
+    (base-word .ensures .0) (head .ensures .0) (seek-is (scope (args .op) (args .card .now) (args .root .now) (args .chain .now)) (args .work .now) (part .result .now) _ _ _ _ (hash .ensures .0) (seek-by .ensures)) (if2 .left) (if3 .left)
 
 add-result-2 : tie.Need-add-result-2
 add-result-2 c = search needs
@@ -166,7 +166,7 @@ returns-4 c =
     add-new (scope (args .op) (args .card .now) (args .root .now) (args .chain .now)) (args .work .now) (args .n) (args .at) (args .len) (args .base) _
     (room .ensures) (if1 .left) _ _ (word .ensures .0) (word2 .ensures .0) _ (part .ensures) _ _ _ _ (bucket-is _ _ _ _ _ (hash .ensures .0)
     (bucket-by .ensures))
-    (base-word .ensures .0) (head .ensures .0) (seek-by .ensures) (if2 .left) (if3 .left) _ (hash .ensures .0) _ (put .ensures)
+    (base-word .ensures .0) (head .ensures .0) (seek-is (scope (args .op) (args .card .now) (args .root .now) (args .chain .now)) (args .work .now) (part .result .now) _ _ _ _ (hash .ensures .0) (seek-by .ensures)) (if2 .left) (if3 .left) _ (hash .ensures .0) _ (put .ensures)
 
 pub add-spec : {M : Type 1} → statement M
 add-spec =

@@ -1,7 +1,7 @@
 -- `chains::seek` meets its contract. Assumes nothing.
 use Rattle.prefix.specs.Prefix.{scope}
 use Rattle.chains.specs.Chains.{isWanted}
-use Rattle.chains.proofs.Tests.{seek-zero}
+use Rattle.chains.proofs.Tests.{seek-zero, seek-is}
 use borrow.Author.Needs.{needs}
 use Rattle.chains.proofs.seek.Statement.{statement}
 use Rattle.chains.proofs.seek.Tie as tie
@@ -24,7 +24,12 @@ seek-by-requires : tie.Need-seek-by-requires
 seek-by-requires c κs = search needs
 
 returns-2 : tie.Need-returns-2
-returns-2 c = search needs
+returns-2 c =
+    let args = c .before .before .before .before .before .before .before .before .args in
+    let hash = c .before .hash in
+    let seek-by = c .seek-by in
+    seek-is (scope (args .op) (args .card .now) (args .root .now) (args .chain .now)) (args .work .now) (args .name .now) _ (args .want) (args .from) _
+    (hash .ensures .0) (seek-by .ensures)
 
 pub seek-spec : {M : Type 1} → statement M
 seek-spec = tie.close (tie.spec returns hash-requires seek-by-requires returns-2)

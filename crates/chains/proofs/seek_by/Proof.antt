@@ -1,6 +1,6 @@
 -- `chains::seek_by` meets its contract. Assumes nothing.
 use Rattle.prefix.specs.Prefix.{scope}
-use Rattle.chains.specs.Chains.{isWanted}
+use Rattle.chains.specs.Chains.{isNumbered}
 use Rattle.chains.proofs.Tests.{seek-zero}
 use borrow.Author.Needs.{needs}
 use Rattle.chains.proofs.seek_by.Statement.{statement}
@@ -13,7 +13,7 @@ returns : tie.Need-returns
 returns c =
     let args = c .before .before .before .before .before .before .args in
     let if1 = c .if1 in
-    seek-zero (isWanted (scope (args .op) (args .card .now) (args .root .now) (args .chain .now)) (args .work .now) (args .name .now) (args .want))
+    seek-zero (isNumbered (scope (args .op) (args .card .now) (args .root .now) (args .chain .now)) (args .work .now) (args .name .now) (args .number) (args .want))
     (args .work .now) (args .from) (if1 .taken)
 
 seek-some-requires : tie.Need-seek-some-requires

@@ -1,7 +1,7 @@
 -- `choosing::chosen` meets its contract. Assumes nothing.
 use borrow.Author.Needs.{needs}
 use Rattle.prefix.specs.Prefix.{scope}
-use Rattle.chains.proofs.Tests.{bucket-is}
+use Rattle.chains.proofs.Tests.{bucket-is, seek-is}
 use Rattle.choosing.proofs.Tests.{chosen-none, chosen-only, chosen-several}
 use Rattle.choosing.proofs.chosen.Statement.{statement}
 use Rattle.choosing.proofs.chosen.Tie as tie
@@ -36,7 +36,7 @@ returns c =
     let if1 = c .if1 in
     chosen-none (scope (args .op) (args .card .now) (args .root .now) (args .chain .now)) (args .work .now) _ _ _ _ (bucket-is _ _ _ _ _
     (hash .ensures .0) (bucket-by .ensures))
-    (head .ensures .0) (seek-by .ensures) (if1 .taken)
+    (head .ensures .0) (seek-is (scope (args .op) (args .card .now) (args .root .now) (args .chain .now)) (args .work .now) (args .name .now) _ _ _ _ (hash .ensures .0) (seek-by .ensures)) (if1 .taken)
 
 next-requires : tie.Need-next-requires
 next-requires c κs = search needs
@@ -57,7 +57,7 @@ returns-2 c =
     let if2 = c .if2 in
     chosen-only (scope (args .op) (args .card .now) (args .root .now) (args .chain .now)) (args .work .now) _ _ _ _ (bucket-is _ _ _ _ _
     (hash .ensures .0) (bucket-by .ensures))
-    (head .ensures .0) (seek-by .ensures) (if1 .left) _ _ (next .ensures) (seek-by2 .ensures) (if2 .taken)
+    (head .ensures .0) (seek-is (scope (args .op) (args .card .now) (args .root .now) (args .chain .now)) (args .work .now) (args .name .now) _ _ _ _ (hash .ensures .0) (seek-by .ensures)) (if1 .left) _ _ (next .ensures) (seek-is (scope (args .op) (args .card .now) (args .root .now) (args .chain .now)) (args .work .now) (args .name .now) _ _ _ _ (hash .ensures .0) (seek-by2 .ensures)) (if2 .taken)
 
 chosen-of-several-requires : tie.Need-chosen-of-several-requires
 chosen-of-several-requires c κs = search needs
@@ -76,7 +76,7 @@ returns-3 c =
     let chosen-of-several = c .chosen-of-several in
     chosen-several (scope (args .op) (args .card .now) (args .root .now) (args .chain .now)) (args .work .now) _ _ _ _ (bucket-is _ _ _ _ _
     (hash .ensures .0) (bucket-by .ensures))
-    (head .ensures .0) (seek-by .ensures) (if1 .left) _ _ (next .ensures) (seek-by2 .ensures) (if2 .left) _ (chosen-of-several .ensures)
+    (head .ensures .0) (seek-is (scope (args .op) (args .card .now) (args .root .now) (args .chain .now)) (args .work .now) (args .name .now) _ _ _ _ (hash .ensures .0) (seek-by .ensures)) (if1 .left) _ _ (next .ensures) (seek-is (scope (args .op) (args .card .now) (args .root .now) (args .chain .now)) (args .work .now) (args .name .now) _ _ _ _ (hash .ensures .0) (seek-by2 .ensures)) (if2 .left) _ (chosen-of-several .ensures)
 
 pub chosen-spec : {M : Type 1} → statement M
 chosen-spec =

@@ -1,6 +1,6 @@
 -- `choosing::chosen_after` meets its contract. Assumes nothing.
 use Rattle.prefix.specs.Prefix.{scope}
-use Rattle.chains.proofs.Tests.{bucket-is}
+use Rattle.chains.proofs.Tests.{bucket-is, seek-is}
 use Rattle.choosing.proofs.Tests.{chosen-newest}
 use borrow.Author.Needs.{needs}
 use Rattle.choosing.proofs.chosen_after.Statement.{statement}
@@ -36,7 +36,7 @@ returns c =
     let if1 = c .if1 in
     chosen-newest (scope (args .op) (args .card .now) (args .root .now) (args .chain .now)) (args .work .now) (args .name .now) _ _ _ (bucket-is _ _ _ _ _
     (hash .ensures .0) (bucket-by .ensures))
-    (head .ensures .0) (seek-by .ensures) _ (pre .0) (pre .1) (if1 .taken)
+    (head .ensures .0) (seek-is (scope (args .op) (args .card .now) (args .root .now) (args .chain .now)) (args .work .now) (args .name .now) _ _ _ _ (hash .ensures .0) (seek-by .ensures)) _ (pre .0) (pre .1) (if1 .taken)
 
 chosen-requires : tie.Need-chosen-requires
 chosen-requires c κs = search needs

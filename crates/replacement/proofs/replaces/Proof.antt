@@ -2,7 +2,7 @@
 use mathlib.Core.Path.{refl}
 use Rattle.wire.proofs.Less.{at-least-one}
 use Rattle.prefix.specs.Prefix.{scope}
-use Rattle.chains.proofs.Tests.{bucket-is}
+use Rattle.chains.proofs.Tests.{bucket-is, seek-is}
 use Rattle.choosing.proofs.Tests.{chosen-none, chosen-only, chosen-several, chosen-room}
 use Rattle.replacement.proofs.Tests.{replaces-none, replaces-base}
 use Rattle.replacement.proofs.Several.{several-gives}
@@ -32,7 +32,7 @@ returns c =
     let if1 = c .if1 in
     let scoped = scope (args .op) (args .card .now) (args .root .now) (args .chain .now) in
     replaces-none scoped (args .work .now) (args .name .now) (args .base .now) 0 (chosen-none scoped (args .work .now) (args .name .now) _ _ _
-    (bucket-is _ _ _ _ _ (hash .ensures .0) (bucket-by .ensures)) (head .ensures .0) (seek-by .ensures)
+    (bucket-is _ _ _ _ _ (hash .ensures .0) (bucket-by .ensures)) (head .ensures .0) (seek-is scoped (args .work .now) (args .name .now) _ _ _ _ (hash .ensures .0) (seek-by .ensures))
     (if1 .taken)) refl
 
 next-requires : tie.Need-next-requires
@@ -54,8 +54,8 @@ has-base-requires c κs =
     let if2 = c .if2 in
     let scoped = scope (args .op) (args .card .now) (args .root .now) (args .chain .now) in
     let only = chosen-only scoped (args .work .now) (args .name .now) _ _ _ (bucket-is _ _ _ _ _ (hash .ensures .0) (bucket-by .ensures))
-    (head .ensures .0) (seek-by .ensures) (if1 .left) _ _ (next .ensures)
-    (seek-by2 .ensures) (if2 .taken) in
+    (head .ensures .0) (seek-is scoped (args .work .now) (args .name .now) _ _ _ _ (hash .ensures .0) (seek-by .ensures)) (if1 .left) _ _ (next .ensures)
+    (seek-is scoped (args .work .now) (args .name .now) _ _ _ _ (hash .ensures .0) (seek-by2 .ensures)) (if2 .taken) in
     (at-least-one _ (if1 .left), chosen-room scoped (args .work .now) (args .name .now) _ only)
 
 returns-2 : tie.Need-returns-2
@@ -72,8 +72,8 @@ returns-2 c =
     let has-base = c .has-base in
     let scoped = scope (args .op) (args .card .now) (args .root .now) (args .chain .now) in
     let only = chosen-only scoped (args .work .now) (args .name .now) _ _ _ (bucket-is _ _ _ _ _ (hash .ensures .0) (bucket-by .ensures))
-    (head .ensures .0) (seek-by .ensures) (if1 .left) _ _ (next .ensures)
-    (seek-by2 .ensures) (if2 .taken) in
+    (head .ensures .0) (seek-is scoped (args .work .now) (args .name .now) _ _ _ _ (hash .ensures .0) (seek-by .ensures)) (if1 .left) _ _ (next .ensures)
+    (seek-is scoped (args .work .now) (args .name .now) _ _ _ _ (hash .ensures .0) (seek-by2 .ensures)) (if2 .taken) in
     replaces-base scoped (args .work .now) (args .name .now) (args .base .now) _ only (if1 .left) _ (has-base .ensures)
 
 is-prefix-requires : tie.Need-is-prefix-requires
@@ -102,7 +102,7 @@ returns-3 c =
     several-gives scoped (args .work .now) (args .name .now) (args .base .now) _ _ (is-prefix .ensures) (if3 .taken) (is-runtime .ensures) (if4 .taken)
     (head .result)
     (chosen-several scoped (args .work .now) (args .name .now) _ _ _ (bucket-is _ _ _ _ _ (hash .ensures .0) (bucket-by .ensures)) (head .ensures .0)
-    (seek-by .ensures) (if1 .left) _ _ (next .ensures) (seek-by2 .ensures) (if2 .left) _ refl)
+    (seek-is scoped (args .work .now) (args .name .now) _ _ _ _ (hash .ensures .0) (seek-by .ensures)) (if1 .left) _ _ (next .ensures) (seek-is scoped (args .work .now) (args .name .now) _ _ _ _ (hash .ensures .0) (seek-by2 .ensures)) (if2 .left) _ refl)
 
 chosen-requires : tie.Need-chosen-requires
 chosen-requires c κs = search needs

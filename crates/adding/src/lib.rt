@@ -60,16 +60,19 @@ pub fn add(
     }
     let place = wire::word(at) % 65536;
     let name = wire::part(card, place, wire::word(len));
-    let b = chains::bucket(op, work, name);
+    let h = comparing::hash(op, name);
+    let b = chains::bucket_by(work, h);
+    let number = h % 65536;
     let w = comparing::base_word(op, card, base);
     let first = chains::head(work, b);
-    if 0 < chains::seek(op, card, root, chain, work, first, name, Want::Based(w)) {
+    let want = Want::Based(w);
+    if 0 < chains::seek_by(op, card, root, chain, work, first, name, number, want) {
         return n;
     }
     if n == most {
         return n + 1;
     }
-    let named = place + 65536 * (comparing::hash(op, name) % 65536);
+    let named = place + 65536 * number;
     put(work, n, b, named as u32, len, w as u32);
     n + 1
 }

@@ -1,7 +1,7 @@
 -- What the functions over pairs and chains answer, test by test. Assumes nothing.
 use mathlib.Core.Path.{_≡_, refl, sym, ap, _∙_}
 use mathlib.Core.List.{List}
-use mathlib.Core.Bool.{Bool, true, false, not, _||_, cond, and-false}
+use mathlib.Core.Bool.{Bool, true, false, not, _||_, cond, and-false, true≢false}
 use Prim.Native.Nat.{ℕ, zero, suc, _+_, _-_, _*_, _/_, _%_, _^_, _<_, _≤_}
 use native.Mathlib.Omega.{arith}
 use lib.ListN.{take, drop, getD}
@@ -17,17 +17,22 @@ use Rattle.prefix.specs.Prefix.{Scope}
 use Rattle.comparing.specs.Compares.{hash, placeIn, tagIn, sameBase}
 use Rattle.chains.specs.declared.Want.{Want}
 use Rattle.chains.specs.declared.Want.the-variants.{Named, Based, Runtime}
-use Rattle.chains.specs.Chains.{room, nameAt, numberAt, numberOf, wordAt, linkAt, bucketOf, headOf, nextOf, hasWanted, isOther, hasNamed, isWanted}
-use Rattle.chains.specs.Chains.{seekFrom, seek}
+use Rattle.chains.specs.Chains.{room, nameAt, numberAt, numberOf, wordAt, linkAt, bucketBy, bucketOf, headOf, nextOf, hasWanted, isOther, hasNamed, isWanted, isNumbered}
+use Rattle.chains.specs.Chains.{mayBe, mayHave, seekFrom, seek}
 
-module _ (op : Shortening) (words : List ℕ) (name : Bytes) (n : ℕ) (e : n ≡ room words) where
-  pub bucket-none : n ≡ 0 → 0 ≡ bucketOf op words name
-  unfolding bucketOf
+module _ (words : List ℕ) (h n : ℕ) (e : n ≡ room words) where
+  pub bucket-none : n ≡ 0 → 0 ≡ bucketBy words h
+  unfolding bucketBy
   bucket-none z = rw (eq-eqb (room words) 0 (sym e ∙ z))
 
-  pub bucket-some : (n ≡ 0 → ⊥) → (h : ℕ) → (h ≡ hash op name) × (h < 2 ^ 32) → h / 65536 % n ≡ bucketOf op words name
-  unfolding bucketOf
-  bucket-some z h f = rw (e, f .0, ne-eqb (room words) 0 (λ y. z (e ∙ y)))
+  pub bucket-some : (n ≡ 0 → ⊥) → h / 65536 % n ≡ bucketBy words h
+  unfolding bucketBy
+  bucket-some z = rw (e, ne-eqb (room words) 0 (λ y. z (e ∙ y)))
+
+-- a name's bucket, by its hash
+pub bucket-is : (op : Shortening) (words : List ℕ) (name : Bytes) (h r : ℕ) → h ≡ hash op name → r ≡ bucketBy words h → r ≡ bucketOf op words name
+unfolding bucketBy bucketOf
+bucket-is op words name h r e f = f ∙ rw e
 
 module _ (words : List ℕ) (b n : ℕ) (e : n ≡ room words) where
   pub head-some : b < n → (w : ℕ) → (w ≡ getD words (4 * b + 3) 0) × (w < 2 ^ 32) → (w / 65536 ≡ headOf words b) × (w / 65536 < 65536)
@@ -48,17 +53,25 @@ module _ (words : List ℕ) (g : ℕ) where
     unfolding nextOf
     next-past l = rw (ne-eqb g 0 z, lt-ltb (room words) g (omega arith))
 
+    -- by the fourth word of pair g, counted from the pair's first or from the words' start
+    module _ (i : g ≤ n) (w : ℕ) (f : w ≡ getD words (4 * (g - 1) + 3) 0) where
+      pub link-falls : w % 65536 < g → w % 65536 ≡ nextOf words g
+      unfolding nextOf
+      link-falls l = rw (ne-eqb g 0 z, le-ltb (room words) g (omega arith), ← f, lt-ltb (w % 65536) g l)
+
+      pub link-not : g ≤ w % 65536 → 0 ≡ nextOf words g
+      unfolding nextOf
+      link-not l = rw (ne-eqb g 0 z, le-ltb (room words) g (omega arith), ← f, le-ltb (w % 65536) g l)
+
     module _ (i : g ≤ n) (w : ℕ) (f : w ≡ getD words (4 * g - 1) 0) where
       at : w ≡ getD words (4 * (g - 1) + 3) 0
       at = f ∙ ap (λ (k : ℕ). getD words k 0) (let o : 0 < g = omega (arith, z) in let k : 4 * g - 1 ≡ 4 * (g - 1) + 3 = omega arith in k)
 
       pub next-falls : w % 65536 < g → w % 65536 ≡ nextOf words g
-      unfolding nextOf
-      next-falls l = rw (ne-eqb g 0 z, le-ltb (room words) g (omega arith), ← at, lt-ltb (w % 65536) g l)
+      next-falls l = link-falls i w at l
 
       pub next-not : g ≤ w % 65536 → 0 ≡ nextOf words g
-      unfolding nextOf
-      next-not l = rw (ne-eqb g 0 z, le-ltb (room words) g (omega arith), ← at, le-ltb (w % 65536) g l)
+      next-not l = link-not i w at l
 
 -- a chain's links fall
 pub next-less : (words : List ℕ) (g : ℕ) → 0 < g → nextOf words g < g
@@ -102,11 +115,11 @@ module _ (s : Scope) where
   other-not (Based v) w e = rw (not-true (eqb (placeIn w) 0 || (eqb (placeIn v) 0 || eqb (tagIn w) (tagIn v))) e)
   other-not Runtime w e = cc
 
-  pub wanted-passed : (words : List ℕ) (name : Bytes) (want : Want) (i w : ℕ) (t : Bool) → w ≡ wordAt words i → t ≡ isOther want w → t ≡ true
-      → false ≡ isWanted s words name want i
-  unfolding isWanted hasNamed
-  wanted-passed words name want i w t h e y =
-      rw (← h, other-not want w (sym e ∙ y), and-false, and-false (eqb (numberAt words i) (numberOf (s .op) name)))
+  pub wanted-passed : (words : List ℕ) (name : Bytes) (number : ℕ) (want : Want) (i w : ℕ) (t : Bool) → w ≡ wordAt words i → t ≡ isOther want w → t ≡ true
+      → false ≡ isNumbered s words name number want i
+  unfolding isNumbered hasNamed
+  wanted-passed words name number want i w t h e y =
+      rw (← h, other-not want w (sym e ∙ y), and-false, and-false (eqb (numberAt words i) number))
 
   module _ (want : Want) (w : ℕ) where
     pub wanted-named : want ≡ Named → true ≡ hasWanted s want w
@@ -128,27 +141,97 @@ module _ (s : Scope) where
       runtime-path z x r f g = g ∙ rw (e, f, ne-eqb (w % 65536) 0 z)
 
   -- a pair by its first three words
-  module _ (words : List ℕ) (name : Bytes) (want : Want) (i v : ℕ) (a : v ≡ getD words (4 * i) 0) (n : ℕ) (m : n ≡ numberOf (s .op) name) where
-    pub wanted-number : (v / 65536 ≡ n → ⊥) → false ≡ isWanted s words name want i
-    unfolding isWanted
-    wanted-number d = rw (← a, ← m, ne-eqb (v / 65536) n d)
+  module _ (words : List ℕ) (name : Bytes) (n : ℕ) (want : Want) (i v : ℕ) (a : v ≡ getD words (4 * i) 0) where
+    pub wanted-number : (v / 65536 ≡ n → ⊥) → false ≡ isNumbered s words name n want i
+    unfolding isNumbered
+    wanted-number d = rw (← a, ne-eqb (v / 65536) n d)
 
     module _ (q : v / 65536 ≡ n) (len : ℕ) (own : Bytes) (t : Bool) (l : len ≡ getD words (4 * i + 1) 0)
         (e : own ≡ take len (drop (v % 65536) (s .card))) (f : t ≡ operationOf (s .op) .sameName own name) where
       named : t ≡ operationOf (s .op) .sameName (nameAt (s .card) words i) name
       named = f ∙ ap (λ (x : Bytes). operationOf (s .op) .sameName x name) (e ∙ rw (a, l))
 
-      numbered : isWanted s words name want i ≡ hasNamed s words name want i
-      unfolding isWanted
-      numbered = rw (eq-eqb (numberAt words i) (numberOf (s .op) name) (ap (λ (x : ℕ). x / 65536) (sym a) ∙ q ∙ m))
+      numbered : isNumbered s words name n want i ≡ hasNamed s words name want i
+      unfolding isNumbered
+      numbered = rw (eq-eqb (numberAt words i) n (ap (λ (x : ℕ). x / 65536) (sym a) ∙ q))
 
-      pub wanted-other : not t ≡ true → false ≡ isWanted s words name want i
+      pub wanted-other : not t ≡ true → false ≡ isNumbered s words name n want i
       unfolding hasNamed
       wanted-other d = rw (numbered, ← named, not-true t d)
 
-      pub wanted-same : not t ≡ false → (w : ℕ) (r : Bool) → w ≡ wordAt words i → r ≡ hasWanted s want w → r ≡ isWanted s words name want i
+      pub wanted-same : not t ≡ false → (w : ℕ) (r : Bool) → w ≡ wordAt words i → r ≡ hasWanted s want w → r ≡ isNumbered s words name n want i
       unfolding hasNamed
       wanted-same d w r h g = g ∙ rw (numbered, ← named, not-false t d, h)
+
+  -- by the name's own number
+  pub seek-is : (words : List ℕ) (name : Bytes) (h : ℕ) (want : Want) (from r : ℕ) → h ≡ hash (s .op) name
+      → r ≡ seek (isNumbered s words name (h % 65536) want) words from → r ≡ seek (isWanted s words name want) words from
+  unfolding isNumbered isWanted
+  seek-is words name h want from r m e = e ∙ rw m
+
+-- a pair that a word leaves open, or passes
+module _ (words : List ℕ) (field number i w : ℕ) (a : w ≡ getD words (4 * i + field) 0) where
+  pub may-number : w / 65536 ≡ number → true ≡ mayBe words field number i
+  unfolding mayBe
+  may-number e = rw (← a, eq-eqb (w / 65536) number e)
+
+  module _ (n : w / 65536 ≡ number → ⊥) where
+    pub may-placeless : w % 65536 ≡ 0 → true ≡ mayBe words field number i
+    unfolding mayBe
+    may-placeless z = rw (← a, ne-eqb (w / 65536) number n, eq-eqb (w % 65536) 0 z)
+
+    pub may-not : (w % 65536 ≡ 0 → ⊥) → false ≡ mayBe words field number i
+    unfolding mayBe
+    may-not z = rw (← a, ne-eqb (w / 65536) number n, ne-eqb (w % 65536) 0 z)
+
+-- the word by which pairs are passed
+module _ (words : List ℕ) (number from r : ℕ) (want : Want) where
+  pub skip-unbased : ((v : ℕ) → want ≡ Based v → ⊥) → r ≡ seek (mayBe words 0 number) words from → r ≡ seek (mayHave words number want) words from
+  unfolding mayHave
+  skip-unbased n e = go want n
+    where
+      go : (w : Want) → ((v : ℕ) → w ≡ Based v → ⊥) → r ≡ seek (mayHave words number w) words from
+      go Named m = e
+      go (Based v) m = absurd (m v refl)
+      go Runtime m = e
+
+  module _ (v : ℕ) (b : want ≡ Based v) where
+    pub skip-prefix : v % 65536 ≡ 0 → r ≡ seek (mayBe words 0 number) words from → r ≡ seek (mayHave words number want) words from
+    unfolding mayHave
+    skip-prefix z e = e ∙ rw (b, eq-eqb (v % 65536) 0 z)
+
+    pub skip-path : (v % 65536 ≡ 0 → ⊥) → r ≡ seek (mayBe words 2 (v / 65536)) words from → r ≡ seek (mayHave words number want) words from
+    unfolding mayHave
+    skip-path z e = e ∙ rw (b, ne-eqb (v % 65536) 0 z)
+
+-- a pair that is passed is not sought
+none-of : (a b : Bool) → a || b ≡ false → (a ≡ false) × (b ≡ false)
+none-of true b e = absurd (true≢false e)
+none-of false b e = (refl, e)
+
+may-false : (words : List ℕ) (field number i : ℕ) → mayBe words field number i ≡ false
+    → (eqb (getD words (4 * i + field) 0 / 65536) number ≡ false) × (eqb (getD words (4 * i + field) 0 % 65536) 0 ≡ false)
+unfolding mayBe
+may-false words field number i e = none-of (eqb (getD words (4 * i + field) 0 / 65536) number) (eqb (getD words (4 * i + field) 0 % 65536) 0) e
+
+module _ (s : Scope) (words : List ℕ) (name : Bytes) (number i : ℕ) where
+  number-not : (want : Want) → mayBe words 0 number i ≡ false → isNumbered s words name number want i ≡ false
+  number-not want e =
+      let k : 4 * i + 0 ≡ 4 * i = omega arith in
+      sym (wanted-number s words name number want i (getD words (4 * i + 0) 0) (ap (λ (j : ℕ). getD words j 0) k)
+      (eqb-false (getD words (4 * i + 0) 0 / 65536) number (may-false words 0 number i e .0)))
+
+  other : (v : ℕ) → eqb (placeIn v) 0 ≡ false → mayBe words 2 (tagIn v) i ≡ false → isOther (Based v) (wordAt words i) ≡ true
+  unfolding isOther
+  other v z h = let d = may-false words 2 (tagIn v) i h in rw (d .1, z, d .0)
+
+  pub may-wanted : (want : Want) → mayHave words number want i ≡ false → isNumbered s words name number want i ≡ false
+  unfolding mayHave
+  may-wanted Named e = number-not Named e
+  may-wanted (Based v) e =
+      by-test (eqb (placeIn v) 0) (λ z. number-not (Based v) (rw z at e))
+      (λ z. sym (wanted-passed s words name number (Based v) i (wordAt words i) (isOther (Based v) (wordAt words i)) refl refl (other v z (rw z at e))))
+  may-wanted Runtime e = number-not Runtime e
 
 -- seeking: what is left of a chain has what the whole has
 module _ (f : ℕ → Bool) (words : List ℕ) where
@@ -203,3 +286,50 @@ module _ (f : ℕ → Bool) (words : List ℕ) where
             inside = omega arith;
             rest = k .rest ∙ step ∙ rw y (seek-enough (g - 1) (nextOf words g) (nextOf words g) (omega arith) (omega arith));
           })
+
+-- passing pairs by a test that leaves open every pair that is sought
+module _ (t f : ℕ → Bool) (k : (i : ℕ) → t i ≡ false → f i ≡ false) (words : List ℕ) where
+  -- what is found stands no later
+  pub seek-within : (n g : ℕ) → seekFrom t words n g ≤ g
+  unfolding seekFrom
+  seek-within zero g = omega arith
+  seek-within (suc n) g =
+      by-test (eqb g 0) (λ e. rw e (omega arith))
+      (λ e. let o : 0 < g = (let z = eqb-false g 0 e in omega (arith, z)) in
+      let l = next-less words g o in
+      let m = seek-within n (nextOf words g) in
+      by-test (t (g - 1)) (λ y. rw (e, y) (omega arith)) (λ y. rw (e, y) (omega arith)))
+
+  passed : (n g : ℕ) → g ≤ n → seekFrom f words n g ≡ seekFrom f words n (seekFrom t words n g)
+  unfolding seekFrom
+  passed zero g l = refl
+  passed (suc n) g l =
+      by-test (eqb g 0) (λ e. rw e)
+      (λ e. let o : 0 < g = (let z = eqb-false g 0 e in omega (arith, z)) in
+      let d = next-less words g o in
+      let r = seekFrom t words n (nextOf words g) in
+      let m = seek-within n (nextOf words g) in
+      by-test (t (g - 1)) (λ y. rw (e, y, e))
+      (λ y. rw (e, y, k (g - 1) y) (passed n (nextOf words g) (omega arith) ∙ seek-enough f words n (suc n) r (omega arith) (omega arith))))
+
+  pub seek-passed : (from g m : ℕ) → Seeking f words from g → m ≡ seek t words g → Seeking f words from m × (m ≤ g)
+  unfolding seek
+  seek-passed from g m s e =
+      let i = s .inside in
+      let h : m ≡ seekFrom t words g g = e ∙ rw (le-ltb (room words) g i) in
+      let w : seekFrom t words g g ≤ g = seek-within g g in
+      let r : m ≤ g = omega arith in (
+        record {
+          inside = omega arith;
+          rest = s .rest ∙ passed g g (omega arith) ∙ rw (← h) (seek-enough f words g m m (omega arith) (omega arith));
+        },
+        r,
+      )
+
+  pub seek-on : (from g : ℕ) → Seeking f words from g → 0 < g → (b : Bool) → b ≡ f (g - 1) → b ≡ false → (n : ℕ) → n ≡ nextOf words g → (m : ℕ) → m ≡ seek t words n
+      → Seeking f words from m × (m < g)
+  seek-on from g s o b e y n h m d =
+      let l = next-less words g o in
+      let p = seek-passed from n m (seek-next f words from g s o b e y n h) d in
+      let q = p .1 in
+      (p .0, omega arith)

@@ -38,6 +38,10 @@ headAt words i = getD words (4 * i + 3) 0 / 65536
 abbrev pub numberOf : Shortening → Bytes → ℕ
 numberOf op name = hash op name % 65536
 
+-- the bucket that a hash says
+unfoldable pub bucketBy : List ℕ → ℕ → ℕ
+bucketBy words h = cond (eqb (room words) 0) 0 (h / 65536 % room words)
+
 -- the bucket of a name, by the upper half of its hash, a bucket's newest pair, and the pair after pair g, by their numbers from 1 on
 unfoldable pub bucketOf : Shortening → List ℕ → Bytes → ℕ
 bucketOf op words name = cond (eqb (room words) 0) 0 (hash op name / 65536 % room words)
@@ -68,6 +72,20 @@ module _ (s : Scope) where
   -- the same with the numbers compared first: names with different numbers are different
   unfoldable pub isWanted : List ℕ → Bytes → Want → ℕ → Bool
   isWanted words name want i = eqb (numberAt words i) (numberOf (s .op) name) && hasNamed words name want i
+
+  -- the same by a number that is taken for the name's
+  unfoldable pub isNumbered : List ℕ → Bytes → ℕ → Want → ℕ → Bool
+  isNumbered words name number want i = eqb (numberAt words i) number && hasNamed words name want i
+
+-- whether a word of a pair leaves open that the pair is sought: the number above the place is this one, or there is no place
+unfoldable pub mayBe : List ℕ → ℕ → ℕ → ℕ → Bool
+mayBe words field number i = eqb (getD words (4 * i + field) 0 / 65536) number || eqb (getD words (4 * i + field) 0 % 65536) 0
+
+-- the same by the word that tells most: that of the base, where a path of the card is sought, else that of the name
+unfoldable pub mayHave : List ℕ → ℕ → Want → ℕ → Bool
+mayHave words number Named = mayBe words 0 number
+mayHave words number (Based v) = cond (eqb (placeIn v) 0) (mayBe words 0 number) (mayBe words 2 (tagIn v))
+mayHave words number Runtime = mayBe words 0 number
 
 -- the first pair of the chain from pair g on that a test holds of; n bounds how many are looked at, and g suffices, since links fall
 unfoldable pub seekFrom : (ℕ → Bool) → List ℕ → ℕ → ℕ → ℕ

@@ -6,7 +6,7 @@ use operation::Shortening;
 ghost use mathlib.Core.Path.{_≡_};
 ghost use Prim.Native.Nat.{_-_, _<_, _≤_};
 ghost use Rattle.prefix.specs.Prefix.{scope};
-ghost use Rattle.chains.specs.Chains.{room as Chains·room, numberOf, bucketOf, headOf, nextOf, hasWanted, isOther, isWanted, seek as Chains·seek};
+ghost use Rattle.chains.specs.Chains.{room as Chains·room, bucketBy, bucketOf, headOf, nextOf, hasWanted, isOther, isWanted, isNumbered, mayBe, mayHave, seek as Chains·seek};
 
 // How many pairs words have room for: the number of a pair fits a half word.
 pub fn room(work: &[u32]) -> usize
@@ -19,15 +19,21 @@ pub fn room(work: &[u32]) -> usize
     n
 }
 
-// The bucket of a name.
-pub fn bucket(op: Shortening, work: &[u32], name: &[u8]) -> usize
-    ensures { λ r. ⌜ r ≡ bucketOf op (now (work .entry)) (now (name .entry)) ⌝ }
+// The bucket of a name, by its hash.
+pub fn bucket_by(work: &[u32], hash: usize) -> usize
+    ensures { λ r. ⌜ r ≡ bucketBy (now (work .entry)) hash ⌝ }
 {
     let n = room(work);
     if n == 0 {
         return 0;
     }
-    comparing::hash(op, name) / 65536 % n
+    hash / 65536 % n
+}
+
+pub fn bucket(op: Shortening, work: &[u32], name: &[u8]) -> usize
+    ensures { λ r. ⌜ r ≡ bucketOf op (now (work .entry)) (now (name .entry)) ⌝ }
+{
+    bucket_by(work, comparing::hash(op, name))
 }
 
 // The newest pair of a bucket.
@@ -124,9 +130,9 @@ fn is_wanted(
     number: usize,
     want: Want,
 ) -> bool
-    requires { ⌜ (0 < g) × (g ≤ Chains·room (now work)) × (number ≡ numberOf op (now name)) ⌝ }
+    requires { ⌜ (0 < g) × (g ≤ Chains·room (now work)) ⌝ }
     ensures { λ r. ⌜ r
-        ≡ isWanted (scope op (now (card .entry)) (now (root .entry)) (now (chain .entry))) (now (work .entry)) (now (name .entry)) want (g - 1) ⌝ }
+        ≡ isNumbered (scope op (now (card .entry)) (now (root .entry)) (now (chain .entry))) (now (work .entry)) (now (name .entry)) number want (g - 1) ⌝ }
 {
     let k = 4 * (g - 1);
     let w = wire::word(work[k + 2]);
@@ -144,6 +150,103 @@ fn is_wanted(
     has_wanted(op, card, root, chain, want, w)
 }
 
+// The first pair of the chain from a pair on of which the word at this field leaves open that it is sought: the number above the place is this one, or there
+// is no place. Under a name with many bases nearly every link is to the pair just ahead; told apart, such a link is not waited for.
+fn pass(work: &[u32], from: usize, field: usize, number: usize) -> usize
+    requires { ⌜ (from ≤ Chains·room (now work)) × (field < 4) ⌝ }
+    ensures { λ r. ⌜ r ≡ Chains·seek (mayBe (now (work .entry)) field number) (now (work .entry)) from ⌝ }
+{
+    let mut p = from;
+    while 0 < p {
+        let ahead = p - 1;
+        let k = 4 * ahead;
+        let w = wire::word(work[k + field]);
+        if w / 65536 == number {
+            return p;
+        }
+        if w % 65536 == 0 {
+            return p;
+        }
+        let l = wire::word(work[k + 3]) % 65536;
+        if l == ahead {
+            p = ahead;
+        } else {
+            if ahead < l {
+                return 0;
+            }
+            p = l;
+        }
+    }
+    0
+}
+
+// The first pair that the numbers alone do not tell from what is sought: that of the base, where it is a path of the card, else that of the name. Under one
+// name there can be many bases.
+fn skip(work: &[u32], from: usize, number: usize, want: Want) -> usize
+    requires { ⌜ from ≤ Chains·room (now work) ⌝ }
+    ensures { λ r. ⌜ r ≡ Chains·seek (mayHave (now (work .entry)) number want) (now (work .entry)) from ⌝ }
+{
+    let Want::Based(v) = want else {
+        return pass(work, from, 0, number);
+    };
+    if v % 65536 == 0 {
+        return pass(work, from, 0, number);
+    }
+    pass(work, from, 2, v / 65536)
+}
+
+// The first pair of the chain from a pair on that has this name, by this number, and what is sought.
+fn seek_some(
+    op: Shortening,
+    card: &[u8],
+    root: &[u8],
+    chain: &[usize],
+    work: &[u32],
+    from: usize,
+    name: &[u8],
+    number: usize,
+    want: Want,
+) -> usize
+    ensures { λ r. ⌜ r ≡ Chains·seek
+        (isNumbered (scope op (now (card .entry)) (now (root .entry)) (now (chain .entry))) (now (work .entry)) (now (name .entry)) number want)
+        (now (work .entry)) from ⌝ }
+{
+    if room(work) < from {
+        return 0;
+    }
+    let mut g = from;
+    while 0 < g {
+        if is_wanted(op, card, root, chain, work, g, name, number, want) {
+            return g;
+        }
+        let after = next(work, g);
+        g = skip(work, after, number, want);
+    }
+    0
+}
+
+// The same, for a caller that says the number of the name. Most chains end where they begin: those cost no call.
+pub fn seek_by(
+    op: Shortening,
+    card: &[u8],
+    root: &[u8],
+    chain: &[usize],
+    work: &[u32],
+    from: usize,
+    name: &[u8],
+    number: usize,
+    want: Want,
+) -> usize
+    ensures { λ r. ⌜ r ≡ Chains·seek
+        (isNumbered (scope op (now (card .entry)) (now (root .entry)) (now (chain .entry))) (now (work .entry)) (now (name .entry)) number want)
+        (now (work .entry)) from ⌝ }
+{
+    if from == 0 {
+        return 0;
+    }
+    seek_some(op, card, root, chain, work, from, name, number, want)
+}
+
 // The first pair of the chain from pair g on that has this name and what is sought.
 pub fn seek(
     op: Shortening,
@@ -159,19 +262,9 @@ pub fn seek(
         (isWanted (scope op (now (card .entry)) (now (root .entry)) (now (chain .entry))) (now (work .entry)) (now (name .entry)) want)
         (now (work .entry)) from ⌝ }
 {
-    if room(work) < from {
-        return 0;
-    }
     if from == 0 {
         return 0;
     }
     let number = comparing::hash(op, name) % 65536;
-    let mut g = from;
-    while 0 < g {
-        if is_wanted(op, card, root, chain, work, g, name, number, want) {
-            return g;
-        }
-        g = next(work, g);
-    }
-    0
+    seek_by(op, card, root, chain, work, from, name, number, want)
 }

@@ -39,13 +39,16 @@ pub fn chosen(
 ) -> usize
     ensures { λ r. ⌜ r ≡ chosenPair (scope op (now (card .entry)) (now (root .entry)) (now (chain .entry))) (now (work .entry)) (now (name .entry)) ⌝ }
 {
-    let first = chains::head(work, chains::bucket(op, work, name));
-    let one = chains::seek(op, card, root, chain, work, first, name, Want::Named);
+    let hash = comparing::hash(op, name);
+    let number = hash % 65536;
+    let want = Want::Named;
+    let first = chains::head(work, chains::bucket_by(work, hash));
+    let one = chains::seek_by(op, card, root, chain, work, first, name, number, want);
     if one == 0 {
         return 0;
     }
     let after = chains::next(work, one);
-    let two = chains::seek(op, card, root, chain, work, after, name, Want::Named);
+    let two = chains::seek_by(op, card, root, chain, work, after, name, number, want);
     if two == 0 {
         return one;
     }
@@ -66,8 +69,11 @@ fn chosen_after(
         × (seek (isWanted (scope op (now card) (now root) (now chain)) (now work) (now name) Named) (now work) (nextOf (now work) g) ≡ 0) ⌝ }
     ensures { λ r. ⌜ r ≡ chosenPair (scope op (now (card .entry)) (now (root .entry)) (now (chain .entry))) (now (work .entry)) (now (name .entry)) ⌝ }
 {
-    let first = chains::head(work, chains::bucket(op, work, name));
-    if chains::seek(op, card, root, chain, work, first, name, Want::Named) == g {
+    let hash = comparing::hash(op, name);
+    let number = hash % 65536;
+    let want = Want::Named;
+    let first = chains::head(work, chains::bucket_by(work, hash));
+    if chains::seek_by(op, card, root, chain, work, first, name, number, want) == g {
         return g;
     }
     chosen(op, card, root, chain, work, name)

@@ -47,7 +47,7 @@ fn collect_parts(
     let mut deep = left;
     let mut m = n;
     while at < to {
-        let s = wire::part(card, at, to - at);
+        let s = &card[at..to];
         if reader::is_short(s) {
             return m;
         }

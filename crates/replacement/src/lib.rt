@@ -40,13 +40,16 @@ fn replaces(
     ensures { λ r. ⌜ r ≡ Replaces·replaces (scope op (now (card .entry)) (now (root .entry)) (now (chain .entry)))
         (now (work .entry)) (now (name .entry)) (now (base .entry)) ⌝ }
 {
-    let first = chains::head(work, chains::bucket(op, work, name));
-    let one = chains::seek(op, card, root, chain, work, first, name, Want::Named);
+    let hash = comparing::hash(op, name);
+    let number = hash % 65536;
+    let want = Want::Named;
+    let first = chains::head(work, chains::bucket_by(work, hash));
+    let one = chains::seek_by(op, card, root, chain, work, first, name, number, want);
     if one == 0 {
         return false;
     }
     let after = chains::next(work, one);
-    let two = chains::seek(op, card, root, chain, work, after, name, Want::Named);
+    let two = chains::seek_by(op, card, root, chain, work, after, name, number, want);
     if two == 0 {
         return has_base(op, card, root, chain, work, one, base);
     }

@@ -39,7 +39,7 @@ returns c =
     let word = c .before .before .word in
     let is-other = c .before .is-other in
     let if1 = c .if1 in
-    wanted-passed (scope (args .op) (args .card .now) (args .root .now) (args .chain .now)) (args .work .now) (args .name .now) (args .want) _ _ _
+    wanted-passed (scope (args .op) (args .card .now) (args .root .now) (args .chain .now)) (args .work .now) (args .name .now) (args .number) (args .want) _ _ _
     (word .ensures .0) (is-other .ensures) (if1 .taken)
 
 mul-word-2 : tie.Need-mul-word-2
@@ -55,10 +55,9 @@ returns-2 : tie.Need-returns-2
 returns-2 c =
     let args = c .before .before .before .before .before .before .before .before .before .before .before .before .args in
     let word2 = c .before .word2 in
-    let pre = c .before .before .before .before .before .before .before .before .before .before .before .before .pre in
     let if2 = c .if2 in
-    wanted-number (scope (args .op) (args .card .now) (args .root .now) (args .chain .now)) (args .work .now) (args .name .now) (args .want) _ _
-    (word2 .ensures .0) _ (pre .2) (if2 .taken)
+    wanted-number (scope (args .op) (args .card .now) (args .root .now) (args .chain .now)) (args .work .now) (args .name .now) (args .number) (args .want) _ _
+    (word2 .ensures .0) (if2 .taken)
 
 add-word-2 : tie.Need-add-word-2
 add-word-2 c = search needs
@@ -83,14 +82,13 @@ returns-3 c =
     let args = c .before .before .before .before .before .before .before .before .before .before .before .before .before .before .before .before .before
     .args in
     let word2 = c .before .before .before .before .before .before .word2 in
-    let pre = c .before .before .before .before .before .before .before .before .before .before .before .before .before .before .before .before .before .pre in
     let if2 = c .before .before .before .before .before .if2 in
     let word3 = c .before .before .before .word3 in
     let part = c .before .before .part in
     let same-name = c .before .same-name in
     let if3 = c .if3 in
-    wanted-other (scope (args .op) (args .card .now) (args .root .now) (args .chain .now)) (args .work .now) (args .name .now) (args .want) _ _
-    (word2 .ensures .0) _ (pre .2) (if2 .left) _ _ _ (word3 .ensures .0) (part .ensures) (same-name .ensures) (if3 .taken)
+    wanted-other (scope (args .op) (args .card .now) (args .root .now) (args .chain .now)) (args .work .now) (args .name .now) (args .number) (args .want) _ _
+    (word2 .ensures .0) (if2 .left) _ _ _ (word3 .ensures .0) (part .ensures) (same-name .ensures) (if3 .taken)
 
 has-wanted-requires : tie.Need-has-wanted-requires
 has-wanted-requires c κs = search needs
@@ -100,8 +98,6 @@ returns-4 c =
     let args = c .before .before .before .before .before .before .before .before .before .before .before .before .before .before .before .before .before
     .before .args in
     let word2 = c .before .before .before .before .before .before .before .word2 in
-    let pre = c .before .before .before .before .before .before .before .before .before .before .before .before .before .before .before .before .before
-    .before .pre in
     let if2 = c .before .before .before .before .before .before .if2 in
     let word3 = c .before .before .before .before .word3 in
     let part = c .before .before .before .part in
@@ -109,8 +105,8 @@ returns-4 c =
     let if3 = c .before .if3 in
     let word = c .before .before .before .before .before .before .before .before .before .before .before .word in
     let has-wanted = c .has-wanted in
-    wanted-same (scope (args .op) (args .card .now) (args .root .now) (args .chain .now)) (args .work .now) (args .name .now) (args .want) _ _
-    (word2 .ensures .0) _ (pre .2) (if2 .left) _ _ _ (word3 .ensures .0) (part .ensures) (same-name .ensures) (if3 .left) _ _ (word .ensures .0)
+    wanted-same (scope (args .op) (args .card .now) (args .root .now) (args .chain .now)) (args .work .now) (args .name .now) (args .number) (args .want) _ _
+    (word2 .ensures .0) (if2 .left) _ _ _ (word3 .ensures .0) (part .ensures) (same-name .ensures) (if3 .left) _ _ (word .ensures .0)
     (has-wanted .ensures)
 
 pub is-wanted-spec : {M : Type 1} → statement M

@@ -1,120 +1,35 @@
--- `chains::seek` meets its contract: what is left of the chain has what the whole has. Assumes nothing.
-use mathlib.Core.Path.{_≡_}
-use native.Mathlib.Omega.{arith}
-use borrow.Author.Needs.{needs}
+-- `chains::seek` meets its contract. Assumes nothing.
 use Rattle.prefix.specs.Prefix.{scope}
-use Rattle.chains.specs.Chains.{numberOf, isWanted}
-use Rattle.chains.proofs.Tests.{Seeking, seek-past, seek-zero, seek-start, seek-none, seek-found, seek-next, next-less}
+use Rattle.chains.specs.Chains.{isWanted}
+use Rattle.chains.proofs.Tests.{seek-zero, seek-is}
+use borrow.Author.Needs.{needs}
 use Rattle.chains.proofs.seek.Statement.{statement}
 use Rattle.chains.proofs.seek.Tie as tie
 use Rattle.chains.proofs.seek.Reads as reads
 use Rattle.chains.proofs.seek.Lts as lts
-use Rattle.chains.proofs.is_wanted.Reads as is-wanted-reads
-use Rattle.chains.proofs.next.Reads as next-reads
-use Rattle.chains.proofs.room.Reads as room-reads
+use Rattle.chains.proofs.seek_by.Reads as seek-by-reads
 use Rattle.comparing.proofs.hash.Reads as hash-reads
 
-abbrev Inv-loop : tie.InvT-loop
-Inv-loop op card root chain work from name want number g₀ g =
-    Seeking (isWanted (scope op card root chain) work name want) work from g × (number ≡ numberOf op name)
-
-abbrev μ-loop : tie.MeasureT-loop
-μ-loop op card root chain work from name want number g₀ g = g
-
-room-requires : tie.Need-room-requires Inv-loop μ-loop
-room-requires c κs = search needs
-
-returns : tie.Need-returns Inv-loop μ-loop
+returns : tie.Need-returns
 returns c =
-    let args = c .before .before .before .before .before .before .before .args in
-    let room = c .before .room in
+    let args = c .before .before .before .before .before .before .args in
     let if1 = c .if1 in
-    seek-past (isWanted (scope (args .op) (args .card .now) (args .root .now) (args .chain .now)) (args .work .now) (args .name .now) (args .want))
-    (args .work .now) (args .from) _ (room .ensures) (if1 .taken)
-
-returns-2 : tie.Need-returns-2 Inv-loop μ-loop
-returns-2 c =
-    let args = c .before .before .before .before .before .before .before .before .args in
-    let if2 = c .if2 in
     seek-zero (isWanted (scope (args .op) (args .card .now) (args .root .now) (args .chain .now)) (args .work .now) (args .name .now) (args .want))
-    (args .work .now) (args .from) (if2 .taken)
+    (args .work .now) (args .from) (if1 .taken)
 
-hash-requires : tie.Need-hash-requires Inv-loop μ-loop
+hash-requires : tie.Need-hash-requires
 hash-requires c κs = search needs
 
-loop-holds : tie.Need-loop-holds Inv-loop μ-loop
-loop-holds c =
-    let args = c .before .before .before .before .before .before .before .before .before .args in
-    let room = c .before .before .before .room in
-    let if1 = c .before .before .if1 in
-    let hash = c .hash in (
-      seek-start (isWanted (scope (args .op) (args .card .now) (args .root .now) (args .chain .now)) (args .work .now) (args .name .now) (args .want))
-          (args .work .now) (args .from) _ (room .ensures) (if1 .left),
-      rw (hash .ensures .0),
-    )
+seek-by-requires : tie.Need-seek-by-requires
+seek-by-requires c κs = search needs
 
-is-wanted-requires : tie.Need-is-wanted-requires Inv-loop μ-loop
-is-wanted-requires c κs =
-    let loop-test = c .loop-test in
-    let loop = c .before .loop in
-    (loop-test .taken, loop .inv .0 .inside, loop .inv .1)
-
-returns-3 : tie.Need-returns-3 Inv-loop μ-loop
-returns-3 c =
-    let args = c .before .before .before .before .before .before .before .before .before .before .before .before .before .args in
-    let loop = c .before .before .before .loop in
-    let loop-test = c .before .before .loop-test in
-    let is-wanted = c .before .is-wanted in
-    let if3 = c .if3 in
-    seek-found (isWanted (scope (args .op) (args .card .now) (args .root .now) (args .chain .now)) (args .work .now) (args .name .now) (args .want))
-    (args .work .now) (args .from) _ (loop .inv .0) (loop-test .taken) _ (is-wanted .ensures) (if3 .taken)
-
-next-requires : tie.Need-next-requires Inv-loop μ-loop
-next-requires c κs = search needs
-
-loop-less : tie.Need-loop-less Inv-loop μ-loop
-loop-less c =
-    let args = c .before .before .before .before .before .before .before .before .before .before .before .before .before .before .args in
-    let loop = c .before .before .before .before .loop in
-    let loop-test = c .before .before .before .loop-test in
-    let next = c .next in
-    let l = next-less (args .work .now) (loop .g) (loop-test .taken) in let e = next .ensures in omega arith
-
-loop-again : tie.Need-loop-again Inv-loop μ-loop
-loop-again c =
-    let args = c .before .before .before .before .before .before .before .before .before .before .before .before .before .before .args in
-    let loop = c .before .before .before .before .loop in
-    let loop-test = c .before .before .before .loop-test in
-    let is-wanted = c .before .before .is-wanted in
-    let if3 = c .before .if3 in
-    let next = c .next in (
-      seek-next (isWanted (scope (args .op) (args .card .now) (args .root .now) (args .chain .now)) (args .work .now) (args .name .now) (args .want))
-          (args .work .now) (args .from) _ (loop .inv .0) (loop-test .taken) _ (is-wanted .ensures) (if3 .left) _ (next .ensures),
-      loop .inv .1,
-    )
-
-returns-4 : tie.Need-returns-4 Inv-loop μ-loop
-returns-4 c =
-    let args = c .before .before .before .before .before .before .before .before .before .before .before .args in
-    let loop = c .before .loop in
-    let loop-test = c .loop-test in
-    seek-none (isWanted (scope (args .op) (args .card .now) (args .root .now) (args .chain .now)) (args .work .now) (args .name .now) (args .want))
-    (args .work .now) (args .from) _ (loop .inv .0) (loop-test .left)
+returns-2 : tie.Need-returns-2
+returns-2 c =
+    let args = c .before .before .before .before .before .before .before .before .args in
+    let hash = c .before .hash in
+    let seek-by = c .seek-by in
+    seek-is (scope (args .op) (args .card .now) (args .root .now) (args .chain .now)) (args .work .now) (args .name .now) _ (args .want) (args .from) _
+    (hash .ensures .0) (seek-by .ensures)
 
 pub seek-spec : {M : Type 1} → statement M
-seek-spec =
-    tie.close
-    (tie.spec
-    Inv-loop
-    μ-loop
-    room-requires
-    returns
-    returns-2
-    hash-requires
-    loop-holds
-    is-wanted-requires
-    returns-3
-    next-requires
-    loop-less
-    loop-again
-    returns-4)
+seek-spec = tie.close (tie.spec returns hash-requires seek-by-requires returns-2)

@@ -27,7 +27,6 @@ use Rattle.reader.proofs.record_length.Reads as record-length-reads
 use Rattle.steps.proofs.stands.Reads as stands-reads
 use Rattle.visiting.proofs.add_name.Reads as add-name-reads
 use Rattle.visiting.proofs.add_path.Reads as add-path-reads
-use Rattle.wire.proofs.part.Reads as part-reads
 use Rattle.collecting.proofs.+collect_decl+collect_parts.{statement}
 use Rattle.collecting.proofs.+collect_decl+collect_parts.Tie.{close}
 
@@ -71,8 +70,6 @@ collect-decl-calls t = (
 
 abbrev collect-parts-calls : ℕ → collect-parts-lts.Claims
 collect-parts-calls t = (
-  part-reads.Asked,
-  part-reads.Learnt,
   is-short-reads.Asked,
   is-short-reads.Learnt,
   record-length-reads.Asked,
@@ -130,15 +127,21 @@ collect-parts-loop-holds t c =
       refl,
     )
 
-collect-parts-sub-part : (t : ℕ)
-    → collect-parts-lts.Need-sub-part (collect-parts-calls t) (collect-parts-at t) collect-parts.Post collect-parts-Inv-loop collect-parts-μ-loop
-collect-parts-sub-part t c =
+collect-parts-sub-s : (t : ℕ)
+    → collect-parts-lts.Need-sub-s (collect-parts-calls t) (collect-parts-at t) collect-parts.Post collect-parts-Inv-loop collect-parts-μ-loop
+collect-parts-sub-s t c =
     let loop = c .before .loop in
     loop .inv .0 .ordered
 
-collect-parts-part-requires : (t : ℕ)
-    → collect-parts-lts.Need-part-requires (collect-parts-calls t) (collect-parts-at t) collect-parts.Post collect-parts-Inv-loop collect-parts-μ-loop
-collect-parts-part-requires t c κs = search needs
+collect-parts-part-s-start : (t : ℕ)
+    → collect-parts-lts.Need-part-s-start (collect-parts-calls t) (collect-parts-at t) collect-parts.Post collect-parts-Inv-loop collect-parts-μ-loop
+collect-parts-part-s-start t c =
+    let loop = c .before .loop in
+    loop .inv .0 .ordered
+
+collect-parts-part-s-end : (t : ℕ)
+    → collect-parts-lts.Need-part-s-end (collect-parts-calls t) (collect-parts-at t) collect-parts.Post collect-parts-Inv-loop collect-parts-μ-loop
+collect-parts-part-s-end t c = c .before .before .before .before .before .before .pre .1 .1
 
 collect-parts-is-short-requires : (t : ℕ)
     → collect-parts-lts.Need-is-short-requires (collect-parts-calls t) (collect-parts-at t) collect-parts.Post collect-parts-Inv-loop collect-parts-μ-loop
@@ -154,10 +157,9 @@ collect-parts-returns : (t : ℕ)
     → collect-parts-lts.Need-returns (collect-parts-calls t) (collect-parts-at t) collect-parts.Post collect-parts-Inv-loop collect-parts-μ-loop
 collect-parts-returns t c =
     let loop = c .before .before .before .before .loop in
-    let part = c .before .before .part in
     let is-short = c .before .is-short in
     let if1 = c .if1 in
-    going-short (loop .inv .0) (part .ensures) (is-short .ensures) (if1 .taken)
+    going-short (loop .inv .0) refl (is-short .ensures) (if1 .taken)
 
 collect-parts-same-length-2 : (t : ℕ)
     → collect-parts-lts.Need-same-length-2 (collect-parts-calls t) (collect-parts-at t) collect-parts.Post collect-parts-Inv-loop collect-parts-μ-loop
@@ -187,12 +189,11 @@ collect-parts-add-next-2 : (t : ℕ)
     → collect-parts-lts.Need-add-next-2 (collect-parts-calls t) (collect-parts-at t) collect-parts.Post collect-parts-Inv-loop collect-parts-μ-loop
 collect-parts-add-next-2 t c =
     let loop = c .before .before .before .before .before .before .loop in
-    let part = c .before .before .before .before .part in
     let is-short = c .before .before .before .is-short in
     let if1 = c .before .before .if1 in
     let record-length = c .record-length in
     let pre = c .before .before .before .before .before .before .before .before .before .before .before .pre in
-    let o = going-to (loop .inv .0) (part .ensures) (is-short .ensures) (if1 .left) (record-length .ensures) in
+    let o = going-to (loop .inv .0) refl (is-short .ensures) (if1 .left) (record-length .ensures) in
     let p = pre .1 .1 in
     omega arith
 
@@ -215,12 +216,11 @@ collect-parts-loop-less : (t : ℕ)
     → collect-parts-lts.Need-loop-less (collect-parts-calls t) (collect-parts-at t) collect-parts.Post collect-parts-Inv-loop collect-parts-μ-loop
 collect-parts-loop-less t c =
     let loop = c .before .before .before .before .before .before .before .before .before .loop in
-    let part = c .before .before .before .before .before .before .before .part in
     let is-short = c .before .before .before .before .before .before .is-short in
     let if1 = c .before .before .before .before .before .if1 in
     let record-length = c .before .before .before .record-length in
     let loop-test = c .before .before .before .before .before .before .before .before .loop-test in
-    let o = going-six (loop .inv .0) (part .ensures) (is-short .ensures) (if1 .left) (record-length .ensures) in
+    let o = going-six (loop .inv .0) refl (is-short .ensures) (if1 .left) (record-length .ensures) in
     let z = loop-test .taken in
     omega arith
 
@@ -228,14 +228,13 @@ collect-parts-loop-again : (t : ℕ)
     → collect-parts-lts.Need-loop-again (collect-parts-calls t) (collect-parts-at t) collect-parts.Post collect-parts-Inv-loop collect-parts-μ-loop
 collect-parts-loop-again t c =
     let loop = c .before .before .before .before .before .before .before .before .before .loop in
-    let part = c .before .before .before .before .before .before .before .part in
     let is-short = c .before .before .before .before .before .before .is-short in
     let if1 = c .before .before .before .before .before .if1 in
     let record-length = c .before .before .before .record-length in
     let record-kind = c .before .before .record-kind in
     let is-passed = c .before .is-passed in
     let if3 = c .if3 in (
-      going-passed (loop .inv .0) (part .ensures) (is-short .ensures) (if1 .left) (record-length .ensures) (record-kind .ensures) (is-passed .ensures) (if3
+      going-passed (loop .inv .0) refl (is-short .ensures) (if1 .left) (record-length .ensures) (record-kind .ensures) (is-passed .ensures) (if3
           .taken),
       omega (arith, loop .inv .1),
     )
@@ -263,12 +262,11 @@ collect-parts-loop-less-2 : (t : ℕ)
     → collect-parts-lts.Need-loop-less-2 (collect-parts-calls t) (collect-parts-at t) collect-parts.Post collect-parts-Inv-loop collect-parts-μ-loop
 collect-parts-loop-less-2 t c =
     let loop = c .before .before .before .before .before .before .before .before .before .before .before .before .before .before .loop in
-    let part = c .before .before .before .before .before .before .before .before .before .before .before .before .part in
     let is-short = c .before .before .before .before .before .before .before .before .before .before .before .is-short in
     let if1 = c .before .before .before .before .before .before .before .before .before .before .if1 in
     let record-length = c .before .before .before .before .before .before .before .before .record-length in
     let loop-test = c .before .before .before .before .before .before .before .before .before .before .before .before .before .loop-test in
-    let o = going-six (loop .inv .0) (part .ensures) (is-short .ensures) (if1 .left) (record-length .ensures) in
+    let o = going-six (loop .inv .0) refl (is-short .ensures) (if1 .left) (record-length .ensures) in
     let z = loop-test .taken in
     omega arith
 
@@ -276,7 +274,6 @@ collect-parts-loop-again-2 : (t : ℕ)
     → collect-parts-lts.Need-loop-again-2 (collect-parts-calls t) (collect-parts-at t) collect-parts.Post collect-parts-Inv-loop collect-parts-μ-loop
 collect-parts-loop-again-2 t c =
     let loop = c .before .before .before .before .before .before .before .before .before .before .before .before .before .before .loop in
-    let part = c .before .before .before .before .before .before .before .before .before .before .before .before .part in
     let is-short = c .before .before .before .before .before .before .before .before .before .before .before .is-short in
     let if1 = c .before .before .before .before .before .before .before .before .before .before .if1 in
     let record-length = c .before .before .before .before .before .before .before .before .record-length in
@@ -288,7 +285,7 @@ collect-parts-loop-again-2 t c =
     .before .before .args in
     let if4 = c .before .before .before .before .if4 in
     let add-path = c .before .before .add-path in (
-      going-whole (loop .inv .0) (part .ensures) (is-short .ensures) (if1 .left) (record-length .ensures) (record-kind .ensures) (is-passed .ensures) (if3
+      going-whole (loop .inv .0) refl (is-short .ensures) (if1 .left) (record-length .ensures) (record-kind .ensures) (is-passed .ensures) (if3
           .left)
           (if2 .left) (type-path (scope (args .op) (args .card .now) (args .root .now) (args .chain .now)) _ _ _ _ _ _ (if4 .taken) (add-path .ensures)),
       omega (arith, loop .inv .1),
@@ -310,12 +307,11 @@ collect-parts-loop-less-3 : (t : ℕ)
     → collect-parts-lts.Need-loop-less-3 (collect-parts-calls t) (collect-parts-at t) collect-parts.Post collect-parts-Inv-loop collect-parts-μ-loop
 collect-parts-loop-less-3 t c =
     let loop = c .before .before .before .before .before .before .before .before .before .before .before .before .before .before .before .loop in
-    let part = c .before .before .before .before .before .before .before .before .before .before .before .before .before .part in
     let is-short = c .before .before .before .before .before .before .before .before .before .before .before .before .is-short in
     let if1 = c .before .before .before .before .before .before .before .before .before .before .before .if1 in
     let record-length = c .before .before .before .before .before .before .before .before .before .record-length in
     let loop-test = c .before .before .before .before .before .before .before .before .before .before .before .before .before .before .loop-test in
-    let o = going-six (loop .inv .0) (part .ensures) (is-short .ensures) (if1 .left) (record-length .ensures) in
+    let o = going-six (loop .inv .0) refl (is-short .ensures) (if1 .left) (record-length .ensures) in
     let z = loop-test .taken in
     omega arith
 
@@ -323,7 +319,6 @@ collect-parts-loop-again-3 : (t : ℕ)
     → collect-parts-lts.Need-loop-again-3 (collect-parts-calls t) (collect-parts-at t) collect-parts.Post collect-parts-Inv-loop collect-parts-μ-loop
 collect-parts-loop-again-3 t c =
     let loop = c .before .before .before .before .before .before .before .before .before .before .before .before .before .before .before .loop in
-    let part = c .before .before .before .before .before .before .before .before .before .before .before .before .before .part in
     let is-short = c .before .before .before .before .before .before .before .before .before .before .before .before .is-short in
     let if1 = c .before .before .before .before .before .before .before .before .before .before .before .if1 in
     let record-length = c .before .before .before .before .before .before .before .before .before .record-length in
@@ -335,7 +330,7 @@ collect-parts-loop-again-3 t c =
     .before .before .before .args in
     let if5 = c .before .before .before .before .if5 in
     let add-path2 = c .before .before .add-path2 in (
-      going-whole (loop .inv .0) (part .ensures) (is-short .ensures) (if1 .left) (record-length .ensures) (record-kind .ensures) (is-passed .ensures) (if3
+      going-whole (loop .inv .0) refl (is-short .ensures) (if1 .left) (record-length .ensures) (record-kind .ensures) (is-passed .ensures) (if3
           .left)
           (if2 .left) (expr-path (scope (args .op) (args .card .now) (args .root .now) (args .chain .now)) _ _ _ _ _ _ (if5 .taken) (add-path2 .ensures)),
       omega (arith, loop .inv .1),
@@ -355,7 +350,6 @@ collect-parts-collect-decl-requires : (t : ℕ)
     → collect-parts-lts.Need-collect-decl-requires (collect-parts-calls t) (collect-parts-at t) collect-parts.Post collect-parts-Inv-loop collect-parts-μ-loop
 collect-parts-collect-decl-requires t c κs =
     let loop = c .before .before .before .before .before .before .before .before .before .before .before .before .before .before .loop in
-    let part = c .before .before .before .before .before .before .before .before .before .before .before .before .part in
     let is-short = c .before .before .before .before .before .before .before .before .before .before .before .is-short in
     let if1 = c .before .before .before .before .before .before .before .before .before .before .if1 in
     let record-length = c .before .before .before .before .before .before .before .before .record-length in
@@ -367,11 +361,11 @@ collect-parts-collect-decl-requires t c κs =
     let stands = c .before .before .stands in
     let if6 = c .before .if6 in
     let record-kind = c .before .before .before .before .before .before .before .record-kind in
-    let o = going-to (loop .inv .0) (part .ensures) (is-short .ensures) (if1 .left) (record-length .ensures) in
+    let o = going-to (loop .inv .0) refl (is-short .ensures) (if1 .left) (record-length .ensures) in
     let p = pre .1 .1 in (
       less-deep _ (loop .deep) (args .left) (pre .0) (loop .inv .0 .under) (if2 .left),
       (
-        going-six (loop .inv .0) (part .ensures) (is-short .ensures) (if1 .left) (record-length .ensures),
+        going-six (loop .inv .0) refl (is-short .ensures) (if1 .left) (record-length .ensures),
         omega arith,
         pre .1 .2,
         visited-decl (record-kind .result) _ (stands .ensures) (if6 .taken),
@@ -392,13 +386,12 @@ collect-parts-loop-less-4 : (t : ℕ)
 collect-parts-loop-less-4 t c =
     let loop = c .before .before .before .before .before .before .before .before .before .before .before .before .before .before .before .before .before
     .loop in
-    let part = c .before .before .before .before .before .before .before .before .before .before .before .before .before .before .before .part in
     let is-short = c .before .before .before .before .before .before .before .before .before .before .before .before .before .before .is-short in
     let if1 = c .before .before .before .before .before .before .before .before .before .before .before .before .before .if1 in
     let record-length = c .before .before .before .before .before .before .before .before .before .before .before .record-length in
     let loop-test = c .before .before .before .before .before .before .before .before .before .before .before .before .before .before .before .before
     .loop-test in
-    let o = going-six (loop .inv .0) (part .ensures) (is-short .ensures) (if1 .left) (record-length .ensures) in
+    let o = going-six (loop .inv .0) refl (is-short .ensures) (if1 .left) (record-length .ensures) in
     let z = loop-test .taken in
     omega arith
 
@@ -407,7 +400,6 @@ collect-parts-loop-again-4 : (t : ℕ)
 collect-parts-loop-again-4 t c =
     let loop = c .before .before .before .before .before .before .before .before .before .before .before .before .before .before .before .before .before
     .loop in
-    let part = c .before .before .before .before .before .before .before .before .before .before .before .before .before .before .before .part in
     let is-short = c .before .before .before .before .before .before .before .before .before .before .before .before .before .before .is-short in
     let if1 = c .before .before .before .before .before .before .before .before .before .before .before .before .before .if1 in
     let record-length = c .before .before .before .before .before .before .before .before .before .before .before .record-length in
@@ -416,7 +408,7 @@ collect-parts-loop-again-4 t c =
     let if3 = c .before .before .before .before .before .before .before .before .if3 in
     let if2 = c .before .before .before .before .before .before .before .before .before .before .before .before .if2 in
     let collect-decl = c .before .before .collect-decl in (
-      going-whole (loop .inv .0) (part .ensures) (is-short .ensures) (if1 .left) (record-length .ensures) (record-kind .ensures) (is-passed .ensures) (if3
+      going-whole (loop .inv .0) refl (is-short .ensures) (if1 .left) (record-length .ensures) (record-kind .ensures) (is-passed .ensures) (if3
           .left)
           (if2 .left) (collect-decl .ensures),
       omega (arith, loop .inv .1),
@@ -438,7 +430,6 @@ collect-parts-loop-again-5 : (t : ℕ)
     → collect-parts-lts.Need-loop-again-5 (collect-parts-calls t) (collect-parts-at t) collect-parts.Post collect-parts-Inv-loop collect-parts-μ-loop
 collect-parts-loop-again-5 t c =
     let loop = c .before .before .before .before .before .before .before .before .before .before .before .before .before .before .loop in
-    let part = c .before .before .before .before .before .before .before .before .before .before .before .before .part in
     let is-short = c .before .before .before .before .before .before .before .before .before .before .before .is-short in
     let if1 = c .before .before .before .before .before .before .before .before .before .before .if1 in
     let record-length = c .before .before .before .before .before .before .before .before .record-length in
@@ -453,7 +444,7 @@ collect-parts-loop-again-5 t c =
     let if5 = c .before .before .before .if5 in
     let stands = c .before .before .stands in
     let if6 = c .before .if6 in (
-      going-in (loop .inv .0) (part .ensures) (is-short .ensures) (if1 .left) (record-length .ensures) (record-kind .ensures) (is-passed .ensures) (if3 .left)
+      going-in (loop .inv .0) refl (is-short .ensures) (if1 .left) (record-length .ensures) (record-kind .ensures) (is-passed .ensures) (if3 .left)
           (if2 .left) (if7 .taken)
           (other-whole (scope (args .op) (args .card .now) (args .root .now) (args .chain .now)) _ _ _ _ _ (if4 .left) (if5 .left)
           (sym (stands .ensures) ∙ if6 .left)),
@@ -470,7 +461,6 @@ collect-parts-collect-parts-requires : (t : ℕ)
     → collect-parts-lts.Need-collect-parts-requires (collect-parts-calls t) (collect-parts-at t) collect-parts.Post collect-parts-Inv-loop collect-parts-μ-loop
 collect-parts-collect-parts-requires t c κs =
     let loop = c .before .before .before .before .before .before .before .before .before .before .before .before .before .before .before .loop in
-    let part = c .before .before .before .before .before .before .before .before .before .before .before .before .before .part in
     let is-short = c .before .before .before .before .before .before .before .before .before .before .before .before .is-short in
     let if1 = c .before .before .before .before .before .before .before .before .before .before .before .if1 in
     let record-length = c .before .before .before .before .before .before .before .before .before .record-length in
@@ -479,11 +469,11 @@ collect-parts-collect-parts-requires t c κs =
     let args = c .before .before .before .before .before .before .before .before .before .before .before .before .before .before .before .before .before
     .before .before .before .args in
     let if2 = c .before .before .before .before .before .before .before .before .before .before .if2 in
-    let o = going-to (loop .inv .0) (part .ensures) (is-short .ensures) (if1 .left) (record-length .ensures) in
+    let o = going-to (loop .inv .0) refl (is-short .ensures) (if1 .left) (record-length .ensures) in
     let p = pre .1 .1 in
     let l = less-deep _ (loop .deep) (args .left) (pre .0) (loop .inv .0 .under) (if2 .left) in (
       omega arith,
-      (going-six (loop .inv .0) (part .ensures) (is-short .ensures) (if1 .left) (record-length .ensures), omega arith, pre .1 .2),
+      (going-six (loop .inv .0) refl (is-short .ensures) (if1 .left) (record-length .ensures), omega arith, pre .1 .2),
     )
 
 collect-parts-add-i-5 : (t : ℕ)
@@ -500,13 +490,12 @@ collect-parts-loop-less-6 : (t : ℕ)
 collect-parts-loop-less-6 t c =
     let loop = c .before .before .before .before .before .before .before .before .before .before .before .before .before .before .before .before .before
     .before .loop in
-    let part = c .before .before .before .before .before .before .before .before .before .before .before .before .before .before .before .before .part in
     let is-short = c .before .before .before .before .before .before .before .before .before .before .before .before .before .before .before .is-short in
     let if1 = c .before .before .before .before .before .before .before .before .before .before .before .before .before .before .if1 in
     let record-length = c .before .before .before .before .before .before .before .before .before .before .before .before .record-length in
     let loop-test = c .before .before .before .before .before .before .before .before .before .before .before .before .before .before .before .before .before
     .loop-test in
-    let o = going-six (loop .inv .0) (part .ensures) (is-short .ensures) (if1 .left) (record-length .ensures) in
+    let o = going-six (loop .inv .0) refl (is-short .ensures) (if1 .left) (record-length .ensures) in
     let z = loop-test .taken in
     omega arith
 
@@ -515,7 +504,6 @@ collect-parts-loop-again-6 : (t : ℕ)
 collect-parts-loop-again-6 t c =
     let loop = c .before .before .before .before .before .before .before .before .before .before .before .before .before .before .before .before .before
     .before .loop in
-    let part = c .before .before .before .before .before .before .before .before .before .before .before .before .before .before .before .before .part in
     let is-short = c .before .before .before .before .before .before .before .before .before .before .before .before .before .before .before .is-short in
     let if1 = c .before .before .before .before .before .before .before .before .before .before .before .before .before .before .if1 in
     let record-length = c .before .before .before .before .before .before .before .before .before .before .before .before .record-length in
@@ -530,7 +518,7 @@ collect-parts-loop-again-6 t c =
     let if5 = c .before .before .before .before .before .before .before .if5 in
     let stands = c .before .before .before .before .before .before .stands in
     let if6 = c .before .before .before .before .before .if6 in (
-      going-parts (loop .inv .0) (part .ensures) (is-short .ensures) (if1 .left) (record-length .ensures) (record-kind .ensures) (is-passed .ensures) (if3
+      going-parts (loop .inv .0) refl (is-short .ensures) (if1 .left) (record-length .ensures) (record-kind .ensures) (is-passed .ensures) (if3
           .left)
           (if2 .left)
           (other-whole (scope (args .op) (args .card .now) (args .root .now) (args .chain .now)) _ _ _ _ _ (if4 .left) (if5 .left)
@@ -567,8 +555,6 @@ pub +collect-decl+collect-parts-spec : {M : Type 1} → statement M
     (collect-decl-same-length t)
     (collect-decl-returns t))
     λ t. collect-parts-lts.spec (
-      part-reads.Asked,
-      part-reads.Learnt,
       is-short-reads.Asked,
       is-short-reads.Learnt,
       record-length-reads.Asked,
@@ -591,8 +577,9 @@ pub +collect-decl+collect-parts-spec : {M : Type 1} → statement M
     collect-parts-Inv-loop
     collect-parts-μ-loop
     (collect-parts-loop-holds t)
-    (collect-parts-sub-part t)
-    (collect-parts-part-requires t)
+    (collect-parts-sub-s t)
+    (collect-parts-part-s-start t)
+    (collect-parts-part-s-end t)
     (collect-parts-is-short-requires t)
     (collect-parts-same-length t)
     (collect-parts-returns t)

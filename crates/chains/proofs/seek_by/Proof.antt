@@ -1,0 +1,26 @@
+-- `chains::seek_by` meets its contract. Assumes nothing.
+use Rattle.prefix.specs.Prefix.{scope}
+use Rattle.chains.specs.Chains.{isNumbered}
+use Rattle.chains.proofs.Tests.{seek-zero}
+use borrow.Author.Needs.{needs}
+use Rattle.chains.proofs.seek_by.Statement.{statement}
+use Rattle.chains.proofs.seek_by.Tie as tie
+use Rattle.chains.proofs.seek_by.Reads as reads
+use Rattle.chains.proofs.seek_by.Lts as lts
+use Rattle.chains.proofs.seek_some.Reads as seek-some-reads
+
+returns : tie.Need-returns
+returns c =
+    let args = c .before .before .before .before .before .before .args in
+    let if1 = c .if1 in
+    seek-zero (isNumbered (scope (args .op) (args .card .now) (args .root .now) (args .chain .now)) (args .work .now) (args .name .now) (args .number) (args .want))
+    (args .work .now) (args .from) (if1 .taken)
+
+seek-some-requires : tie.Need-seek-some-requires
+seek-some-requires c κs = search needs
+
+returns-2 : tie.Need-returns-2
+returns-2 c = search needs
+
+pub seek-by-spec : {M : Type 1} → statement M
+seek-by-spec = tie.close (tie.spec returns seek-some-requires returns-2)

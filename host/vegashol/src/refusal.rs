@@ -48,7 +48,7 @@ impl Reason {
         }
     }
 
-    /// Whether the refusal's place is a byte of the card, and not 0 for want of one.
+    /// Whether the refusal's place is one in the card, and not 0 for want of one.
     pub fn has_place(self) -> bool {
         use Reason::*;
         matches!(self, ShortRecord | WrongKind | TooDeep | LeftOver | FullTable | NoName)
@@ -86,7 +86,8 @@ impl Reason {
 #[derive(Clone, Copy, Debug, PartialEq, Eq, Hash)]
 pub struct Refusal {
     pub reason: Reason,
-    /// A byte of the card, counted from 0; 0 where the reason has no place.
+    /// How many bytes of the card are ahead of what is wrong: all of them, where something is due at its end. 0 where the reason has
+    /// no place.
     pub place: usize,
 }
 

@@ -18,7 +18,8 @@ compare --vectors FOLDER        the cases of a folder of vectors; with --count o
                                 cards too
 compare FILE                    the cases in a file, one to a line: a card that differed is printed
                                 as such a line
---keep FILE                     writes the cases that differ into a file
+--keep FILE                     writes the first cases that differ, those that are printed, into
+                                a file
 The exit status is 0 where nothing differs, 1 where something does, 2 for a wrong argument.";
 
 const WAYS: &[Way] = &[CONSOLE];
@@ -85,6 +86,12 @@ fn number<T: std::str::FromStr + PartialOrd + Display>(
 
 fn unread(what: &OsStr, e: io::Error) -> String {
     format!("{} can't be read: {e}", what.display())
+}
+
+/// In one line, whatever the names in it are.
+fn on_one_line(text: &str) -> String {
+    let plain = |c: char| if c.is_control() { c.escape_default().to_string() } else { c.to_string() };
+    text.chars().map(plain).collect()
 }
 
 /// Writes a line to standard output. Nobody may be there to read it any more.
@@ -170,8 +177,12 @@ fn compare_file(name: &str, cases: Vec<Case>) -> Result<Report, String> {
 
 fn compare_vectors(folder: &OsStr) -> Result<Vec<Report>, String> {
     let folder = folder.to_str().ok_or_else(|| format!("{} is no name in UTF-8", folder.display()))?;
+    let files = text::folder(folder)?;
+    if files.iter().all(|file| file.vectors.is_empty()) {
+        return Err(format!("{folder} has no case"));
+    }
     let mut reports = Vec::new();
-    for text::File { name, changed, vectors, .. } in text::folder(folder)? {
+    for text::File { name, changed, vectors, .. } in files {
         say(format_args!(
             "{name}: {} lines, {changed} of them answered otherwise by a later file",
             vectors.len()
@@ -185,27 +196,37 @@ fn compare_vectors(folder: &OsStr) -> Result<Vec<Report>, String> {
 fn compare_kept(file: &OsStr) -> Result<Report, String> {
     let name = file.to_string_lossy();
     let lines = fs::read_to_string(file).map_err(|e| unread(file, e))?;
+    let forms = format!("{}; the answer may be left out", text::FORMS);
     let of_line = |(i, line): (usize, &str)| {
-        Case::of_line(line).ok_or_else(|| format!("{name}: line {} is no case: {}", i + 1, text::FORMS))
+        Case::of_line(line).ok_or_else(|| format!("{name}: line {} is no case: {forms}", i + 1))
     };
     let cases = lines.lines().enumerate().map(of_line).collect::<Result<Vec<_>, _>>()?;
     match cases.is_empty() {
-        true => Err(format!("{name} has no case: write {}", text::FORMS)),
+        true => Err(format!("{name} has no case: write {forms}")),
         false => compare_file(&name, cases),
     }
 }
 
+fn unwritten(file: &OsStr, e: io::Error) -> String {
+    format!("{} can't be written: {e}", file.display())
+}
+
+/// Whether a file can be written, before much time goes into what it should hold.
+fn can_keep(file: &OsStr) -> Result<(), String> {
+    let opened = fs::OpenOptions::new().append(true).create(true).open(file);
+    opened.map(drop).map_err(|e| unwritten(file, e))
+}
+
+/// Nothing that was kept before stays.
 fn keep(file: &OsStr, reports: &[Report]) -> Result<(), String> {
     let differences = reports.iter().flat_map(|report| &report.differences);
     let lines: String = differences.map(|(_, _, difference)| format!("{}\n", difference.line)).collect();
-    match lines.is_empty() {
-        true => Ok(()),
-        false => fs::write(file, lines).map_err(|e| format!("{} can't be written: {e}", file.display())),
-    }
+    fs::write(file, lines).map_err(|e| unwritten(file, e))
 }
 
 /// Whether nothing differs, or what is wrong with what was asked.
 fn run(asked: &Asked) -> Result<bool, String> {
+    asked.keep.as_deref().map_or(Ok(()), can_keep)?;
     let mut reports = Vec::new();
     if let Some(folder) = &asked.vectors {
         reports.extend(compare_vectors(folder)?);
@@ -233,7 +254,7 @@ fn main() -> ExitCode {
         Ok(true) => ExitCode::SUCCESS,
         Ok(false) => ExitCode::FAILURE,
         Err(e) => {
-            let _ = writeln!(io::stderr(), "compare: {e}");
+            let _ = writeln!(io::stderr(), "compare: {}", on_one_line(&e));
             ExitCode::from(2)
         }
     }

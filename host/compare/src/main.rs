@@ -1,6 +1,6 @@
 //! The program: compares the proved code with `tree` on random cards, on vectors or on cases kept before.
 use compare::at_random;
-use compare::case::Case;
+use compare::case::{within_limits, Case};
 use compare::comparison::compare_all;
 use compare::report::Report;
 use compare::text;
@@ -25,8 +25,6 @@ The exit status is 0 where nothing differs, 1 where something does, 2 for a wron
 const WAYS: &[Way] = &[CONSOLE];
 const COUNT: usize = 100_000;
 const SEED: u64 = 1;
-/// More bytes or words than these are lent to no case. None needs as many.
-const MOST_LENT: usize = 1 << 24;
 
 /// What was asked for.
 #[derive(Default)]
@@ -166,10 +164,7 @@ fn compare_random(count: usize, seed: u64) -> Report {
 
 /// What comes of the cases of a file.
 fn compare_file(name: &str, cases: Vec<Case>) -> Result<Report, String> {
-    let lends = |case: &Case| case.out.max(case.words).max(case.list.unwrap_or(0));
-    if let Some(i) = cases.iter().position(|case| lends(case) > MOST_LENT) {
-        return Err(format!("{name}: line {} lends more than {}", i + 1, grouped(MOST_LENT)));
-    }
+    within_limits(name, &cases)?;
     let report = compare_all(WAYS, cases);
     report.lines(name, WAYS).iter().for_each(say);
     Ok(report)
@@ -177,12 +172,8 @@ fn compare_file(name: &str, cases: Vec<Case>) -> Result<Report, String> {
 
 fn compare_vectors(folder: &OsStr) -> Result<Vec<Report>, String> {
     let folder = folder.to_str().ok_or_else(|| format!("{} is no name in UTF-8", folder.display()))?;
-    let files = text::folder(folder)?;
-    if files.iter().all(|file| file.vectors.is_empty()) {
-        return Err(format!("{folder} has no case"));
-    }
     let mut reports = Vec::new();
-    for text::File { name, changed, vectors, .. } in files {
+    for text::File { name, changed, vectors, .. } in text::folder(folder)? {
         say(format_args!(
             "{name}: {} lines, {changed} of them answered otherwise by a later file",
             vectors.len()

@@ -2,7 +2,7 @@
 //! same answers, and how fast.
 use compare::at_random;
 use compare::cards::CRATE;
-use compare::case::Case;
+use compare::case::{within_limits, Case};
 use compare::comparison::{compare_all, LONG};
 use compare::report::Report;
 use compare::text;
@@ -296,12 +296,12 @@ struct Vectors {
 /// Those of a folder, none where there is no folder.
 fn vectors_of(folder: Option<&str>) -> Result<Vec<Vectors>, String> {
     let files = folder.map_or(Ok(Vec::new()), text::folder)?;
-    let of_file = |file: text::File| Vectors {
-        name: file.name,
-        changed: file.changed,
-        cases: file.vectors.into_iter().map(Case::of_vector).collect(),
+    let of_file = |file: text::File| {
+        let cases: Vec<Case> = file.vectors.into_iter().map(Case::of_vector).collect();
+        within_limits(&file.name, &cases)?;
+        Ok(Vectors { name: file.name, changed: file.changed, cases })
     };
-    Ok(files.into_iter().map(of_file).collect())
+    files.into_iter().map(of_file).collect()
 }
 
 /// Says what came of cases: whether none differs.

@@ -15,6 +15,18 @@ pub struct Case {
     pub stated: Option<Stated>,
 }
 
+/// More bytes or words than these are lent to no case of a file. None needs as many.
+const MOST_LENT: usize = 1 << 24;
+
+/// Which case of a file lends too much, if one does.
+pub fn within_limits(name: &str, cases: &[Case]) -> Result<(), String> {
+    let lends = |case: &Case| case.out.max(case.words).max(case.list.unwrap_or(0));
+    match cases.iter().position(|case| lends(case) > MOST_LENT) {
+        Some(i) => Err(format!("{name}: line {} lends more than {MOST_LENT}", i + 1)),
+        None => Ok(()),
+    }
+}
+
 /// What is due by an operation: with a list where the case states its length, else without one.
 pub struct Stated {
     pub operation: Operation,

@@ -1,6 +1,6 @@
 //! The program: compares the proved code with `tree` on random cards, on vectors or on cases kept before.
 use compare::at_random;
-use compare::case::Case;
+use compare::case::{within_limits, Case};
 use compare::comparison::compare_all;
 use compare::report::Report;
 use compare::text;
@@ -18,14 +18,13 @@ compare --vectors FOLDER        the cases of a folder of vectors; with --count o
                                 cards too
 compare FILE                    the cases in a file, one to a line: a card that differed is printed
                                 as such a line
---keep FILE                     writes the cases that differ into a file
+--keep FILE                     writes the first cases that differ, those that are printed, into
+                                a file
 The exit status is 0 where nothing differs, 1 where something does, 2 for a wrong argument.";
 
 const WAYS: &[Way] = &[CONSOLE];
 const COUNT: usize = 100_000;
 const SEED: u64 = 1;
-/// More bytes or words than these are lent to no case. None needs as many.
-const MOST_LENT: usize = 1 << 24;
 
 /// What was asked for.
 #[derive(Default)]
@@ -85,6 +84,12 @@ fn number<T: std::str::FromStr + PartialOrd + Display>(
 
 fn unread(what: &OsStr, e: io::Error) -> String {
     format!("{} can't be read: {e}", what.display())
+}
+
+/// In one line, whatever the names in it are.
+fn on_one_line(text: &str) -> String {
+    let plain = |c: char| if c.is_control() { c.escape_default().to_string() } else { c.to_string() };
+    text.chars().map(plain).collect()
 }
 
 /// Writes a line to standard output. Nobody may be there to read it any more.
@@ -159,10 +164,7 @@ fn compare_random(count: usize, seed: u64) -> Report {
 
 /// What comes of the cases of a file.
 fn compare_file(name: &str, cases: Vec<Case>) -> Result<Report, String> {
-    let lends = |case: &Case| case.out.max(case.words).max(case.list.unwrap_or(0));
-    if let Some(i) = cases.iter().position(|case| lends(case) > MOST_LENT) {
-        return Err(format!("{name}: line {} lends more than {}", i + 1, grouped(MOST_LENT)));
-    }
+    within_limits(name, &cases)?;
     let report = compare_all(WAYS, cases);
     report.lines(name, WAYS).iter().for_each(say);
     Ok(report)
@@ -185,27 +187,37 @@ fn compare_vectors(folder: &OsStr) -> Result<Vec<Report>, String> {
 fn compare_kept(file: &OsStr) -> Result<Report, String> {
     let name = file.to_string_lossy();
     let lines = fs::read_to_string(file).map_err(|e| unread(file, e))?;
+    let forms = format!("{}; the answer may be left out", text::FORMS);
     let of_line = |(i, line): (usize, &str)| {
-        Case::of_line(line).ok_or_else(|| format!("{name}: line {} is no case: {}", i + 1, text::FORMS))
+        Case::of_line(line).ok_or_else(|| format!("{name}: line {} is no case: {forms}", i + 1))
     };
     let cases = lines.lines().enumerate().map(of_line).collect::<Result<Vec<_>, _>>()?;
     match cases.is_empty() {
-        true => Err(format!("{name} has no case: write {}", text::FORMS)),
+        true => Err(format!("{name} has no case: write {forms}")),
         false => compare_file(&name, cases),
     }
 }
 
+fn unwritten(file: &OsStr, e: io::Error) -> String {
+    format!("{} can't be written: {e}", file.display())
+}
+
+/// Whether a file can be written, before much time goes into what it should hold.
+fn can_keep(file: &OsStr) -> Result<(), String> {
+    let opened = fs::OpenOptions::new().append(true).create(true).open(file);
+    opened.map(drop).map_err(|e| unwritten(file, e))
+}
+
+/// Nothing that was kept before stays.
 fn keep(file: &OsStr, reports: &[Report]) -> Result<(), String> {
     let differences = reports.iter().flat_map(|report| &report.differences);
     let lines: String = differences.map(|(_, _, difference)| format!("{}\n", difference.line)).collect();
-    match lines.is_empty() {
-        true => Ok(()),
-        false => fs::write(file, lines).map_err(|e| format!("{} can't be written: {e}", file.display())),
-    }
+    fs::write(file, lines).map_err(|e| unwritten(file, e))
 }
 
 /// Whether nothing differs, or what is wrong with what was asked.
 fn run(asked: &Asked) -> Result<bool, String> {
+    asked.keep.as_deref().map_or(Ok(()), can_keep)?;
     let mut reports = Vec::new();
     if let Some(folder) = &asked.vectors {
         reports.extend(compare_vectors(folder)?);
@@ -233,7 +245,7 @@ fn main() -> ExitCode {
         Ok(true) => ExitCode::SUCCESS,
         Ok(false) => ExitCode::FAILURE,
         Err(e) => {
-            let _ = writeln!(io::stderr(), "compare: {e}");
+            let _ = writeln!(io::stderr(), "compare: {}", on_one_line(&e));
             ExitCode::from(2)
         }
     }

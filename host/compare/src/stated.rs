@@ -27,7 +27,7 @@ impl Stated {
 
 /// Every case that is stated of an operation.
 pub fn all(operation: Operation) -> Vec<Stated> {
-    let alike = [limits(), nameless(), full_tables(), around_limits(), short_lists()];
+    let alike = [limits(), nameless(), traits(), full_tables(), around_limits(), short_lists()];
     let by_operation = [proved_cards, wrong_ports, told_apart, lists].map(|of| of(operation));
     alike.into_iter().chain(by_operation).flatten().collect()
 }
@@ -490,6 +490,32 @@ pub fn nameless() -> Vec<Stated> {
         Stated { lent: Some(0), ..refused("a short list", of_type("::a::!"), 11, after_a) },
         Stated { out: 0, lent: Some(1), ..refused("no space, a short list", value("::a::"), 11, in_value) },
     ]
+}
+
+/// Document 01, "PathsVisitor": a trait has a name where its type is a TIdentifier or a TypeApp of one. ::a::T stays long beside
+/// a trait T, and is shortened where there is none. The operations answer alike.
+fn traits() -> Vec<Stated> {
+    let t = || identifier_type("T");
+    let app = |of| record(0x2E, &[of, none()]);
+    let with = |uses: &[Bytes], of: Bytes, constant: Bytes| {
+        m(&[uses, &[trait_(&[], of, none(), &[])], &constants(&[constant])].concat())
+    };
+    let named = |of| {
+        let card = with(&[], of, ty("::a::T"));
+        accepted("a trait with a name", card.clone(), card)
+    };
+    let nameless = |of: Bytes| {
+        let card = with(&[], of.clone(), ty("::a::T"));
+        accepted("a trait without a name", card, with(&[use_decl("::a::T")], of, short("::a::T")))
+    };
+    let others = [
+        app(app(t())),
+        wrapped("T", t()),
+        app(wrapped("T", t())),
+        record(0x2F, &[t()]),
+        record(0x38, &[t(), kept(&[]), kept(&[])]),
+    ];
+    [t(), app(t())].map(named).into_iter().chain(others.map(nameless)).collect()
 }
 
 /// The four cases of TestApply: a module, and what it should be with each synonym taken as its display.

@@ -156,9 +156,13 @@ pub fn folder(folder: &str) -> Result<Vec<File>, String> {
     }
     // Of a request first what replaces, since that is of earlier ones.
     sources.sort_by(|a, b| (a.request, b.replaces, &a.name).cmp(&(b.request, a.replaces, &b.name)));
-    match sources.first() {
-        Some(first) if first.request == 0 => latest(sources),
-        _ => Err(format!("{folder} has no base.txt")),
+    if sources.first().is_none_or(|first| first.request != 0) {
+        return Err(format!("{folder} has no base.txt"));
+    }
+    let files = latest(sources)?;
+    match files.iter().all(|file| file.vectors.is_empty()) {
+        true => Err(format!("{folder} has no case")),
+        false => Ok(files),
     }
 }
 

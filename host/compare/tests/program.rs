@@ -36,6 +36,10 @@ fn wrong_arguments() {
     let empty = file("empty", "");
     let no_case = file("no_case", "020000001100 09000000610003000000010061 13 2048\n?\n");
     let greedy = file("greedy", "020000001100 09000000610003000000010061 99999999999 2048\n");
+    let no_vectors = PathBuf::from(env!("CARGO_TARGET_TMPDIR")).join("no_vectors");
+    fs::create_dir_all(&no_vectors).expect("the folder is there");
+    file("no_vectors/base.txt", "");
+    let no_vectors = no_vectors.to_str().expect("a name in UTF-8");
     let not_text = file("not_text", "");
     fs::write(&not_text, [0xFF, 0xFE]).expect("the file is there");
     let wrong: &[(&[&str], &str)] = &[
@@ -49,8 +53,11 @@ fn wrong_arguments() {
         (&["--vectors"], "--vectors wants a folder"),
         (&["--vectors", "/no/such/folder"], "/no/such/folder can't be read"),
         (&["--vectors", env!("CARGO_MANIFEST_DIR")], "has no base.txt"),
+        (&["--vectors", no_vectors], "has no case"),
         (&["--keep"], "--keep wants a file"),
+        (&["--keep", "/no/such/folder/file"], "/no/such/folder/file can't be written"),
         (&["--all"], "there is no --all"),
+        (&["--two\nlines"], "there is no --two\\nlines"),
         (&["/no/such/file"], "/no/such/file can't be read"),
         (&["a", "b"], "one file at a time"),
         (&["a", "--count", "7"], "a file is compared by itself"),
@@ -91,6 +98,8 @@ fn kept_cases() {
     assert!(said.contains(&format!("{wrong} 2, old: tree answers 0 13; stated is 4 7\n    {case}\n")));
     assert!(said.contains(", old: 1 of 2 differ"), "{said}");
     assert_eq!(fs::read_to_string(&kept).expect("a text"), format!("{case}\n"));
-    // It is a case by itself, and nothing differs where nothing is stated.
+    // It is a case by itself, and nothing differs where nothing is stated: then nothing is kept.
     assert_eq!(run(&[&kept]).0, Some(0));
+    assert_eq!(run(&[&kept, "--keep", &kept]).0, Some(0));
+    assert_eq!(fs::read_to_string(&kept).expect("a text"), "");
 }

@@ -1,4 +1,4 @@
-/* Shortens the card on standard input: cc -I include vegashol/examples/shorten.c ../target/staticlib/libconsole.a */
+/* Shortens the card on standard input. From host: cc -I include vegashol/examples/shorten.c ../target/staticlib/libconsole.a */
 #include "vegashol.h"
 #include <stdio.h>
 
@@ -10,5 +10,5 @@ int main(void) {
         fprintf(stderr, "refused %u at %u\n", (unsigned)VEGASHOL_NUMBER(answer), (unsigned)VEGASHOL_VALUE(answer));
         return 1;
     }
-    return fwrite(out, 1, VEGASHOL_VALUE(answer), stdout) != VEGASHOL_VALUE(answer);
+    return fwrite(out, 1, VEGASHOL_VALUE(answer), stdout) != VEGASHOL_VALUE(answer) || fflush(stdout) != 0;
 }

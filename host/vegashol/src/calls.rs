@@ -2,8 +2,8 @@
 //! that wants the lent memory itself after a call.
 //!
 //! A slice is a pointer and a length. The library asks of its slices only that they are slices: each pointer is valid for its
-//! length, and what is written overlaps with nothing else that is lent. Nothing checks these declarations against the library;
-//! they are those of `vegashol.h`.
+//! length, and what is written overlaps with nothing else that is lent. No proof covers these declarations; a test holds them, and
+//! those of `vegashol.h`, against the library's source.
 //!
 //! Each answers one number: a refusal's number times 2³², plus the output's length or the refusal's place.
 

@@ -1,18 +1,30 @@
 use std::{error::Error, fmt};
 
-/// Why a card was refused. Its number is that of the console's answers.
+/// Why a card was refused. Its number is that of the console's answers. The first that is found is the answer: short work, long card,
+/// bad root; then those of reading, record by record; full table, no space and short list.
 #[derive(Clone, Copy, Debug, PartialEq, Eq, Hash)]
 pub enum Reason {
+    /// Fewer than [`LEAST_WORK`](crate::LEAST_WORK) work words.
     ShortWork = 1,
+    /// A card of more than [`MOST_CARD`](crate::MOST_CARD) bytes.
     LongCard,
+    /// Not one sound path, of at most [`MOST_ROOT`](crate::MOST_ROOT) bytes and at most 8 records deep.
     BadRoot,
+    /// Fewer than 6 bytes left for a record, or its length under 2 or past the record around it. The place is that record's.
     ShortRecord,
+    /// A record of a kind that may not stand there. The place is that record's.
     WrongKind,
+    /// A record more than 48 deep. The place is that record's.
     TooDeep,
+    /// Bytes behind the end of what a record holds. The place is that of the first of them.
     LeftOver,
+    /// A module with more names and paths than the work words have room for. The place is that of its record.
     FullTable,
+    /// An output longer than the out buffer.
     NoSpace,
+    /// A list with fewer than two words for each place.
     ShortList,
+    /// A path's name that is empty or `!`. The place is that of the name's record.
     NoName,
 }
 
@@ -48,7 +60,7 @@ impl Reason {
         }
     }
 
-    /// Whether the refusal's place is a byte of the card, and not 0 for want of one.
+    /// Whether the refusal's place is one in the card, and not 0 for want of one.
     pub fn has_place(self) -> bool {
         use Reason::*;
         matches!(self, ShortRecord | WrongKind | TooDeep | LeftOver | FullTable | NoName)
@@ -86,7 +98,8 @@ impl Reason {
 #[derive(Clone, Copy, Debug, PartialEq, Eq, Hash)]
 pub struct Refusal {
     pub reason: Reason,
-    /// A byte of the card, counted from 0; 0 where the reason has no place.
+    /// How many bytes of the card are ahead of what is wrong: all of them, where something is due at its end. 0 where the reason has
+    /// no place.
     pub place: usize,
 }
 

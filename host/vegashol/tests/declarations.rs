@@ -1,5 +1,7 @@
-//! The header and `calls.rs` declare just what the proved library exports, by the text of all three.
+//! The header and `calls.rs` declare just what the proved library exports, by the text of all three; and the header's numbers are
+//! those of the crate.
 use std::{fs, path::Path};
+use vegashol::{Mark, Reason};
 
 fn text(file: &str) -> String {
     let file = Path::new(env!("CARGO_MANIFEST_DIR")).join(file);
@@ -62,4 +64,39 @@ fn every_exported_call_is_declared_as_it_is() {
     }
     assert_eq!(between(&on_one_line(&text("../include/vegashol.h")), "uint64_t ", ";"), header);
     assert_eq!(between(&on_one_line(&text("src/calls.rs")), "pub fn ", " -> u64;"), rust);
+}
+
+/// Every number that the header defines, in its order.
+#[test]
+fn the_header_has_the_numbers_of_the_crate() {
+    let header = text("../include/vegashol.h");
+    let defined = header.lines().filter_map(|line| line.strip_prefix("#define VEGASHOL_"));
+    let numbers = defined.filter_map(|rest| {
+        let mut words = rest.split_whitespace();
+        Some((words.next()?, words.next()?.parse().ok()?))
+    });
+    let due: [(&str, usize); 21] = [
+        ("SHORT_WORK", Reason::ShortWork as usize),
+        ("LONG_CARD", Reason::LongCard as usize),
+        ("BAD_ROOT", Reason::BadRoot as usize),
+        ("SHORT_RECORD", Reason::ShortRecord as usize),
+        ("WRONG_KIND", Reason::WrongKind as usize),
+        ("TOO_DEEP", Reason::TooDeep as usize),
+        ("LEFT_OVER", Reason::LeftOver as usize),
+        ("FULL_TABLE", Reason::FullTable as usize),
+        ("NO_SPACE", Reason::NoSpace as usize),
+        ("SHORT_LIST", Reason::ShortList as usize),
+        ("NO_NAME", Reason::NoName as usize),
+        ("MOST_CARD", vegashol::MOST_CARD),
+        ("MOST_ROOT", vegashol::MOST_ROOT),
+        ("MOST_TIMES", vegashol::MOST_TIMES),
+        ("MOST_TIMES_STRAIGHT", vegashol::MOST_TIMES_STRAIGHT),
+        ("LEAST_WORK", vegashol::LEAST_WORK),
+        ("MOST_WORK", vegashol::MOST_WORK),
+        ("CRATE_LENGTH", vegashol::CRATE.len()),
+        ("TYPE", Mark::Type as usize),
+        ("EXPR", Mark::Expr as usize),
+        ("USE", Mark::Use as usize),
+    ];
+    assert_eq!(numbers.collect::<Vec<(&str, usize)>>(), due);
 }

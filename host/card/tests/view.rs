@@ -43,16 +43,20 @@ mod m {                                | mod m {
     assert!(tinted.contains("const k: \x1b[1;32mLong\x1b[0m = \x1b[1;32mrd!\x1b[0m(1);\n"), "{tinted}");
 }
 
-/// A synonym of the card's own is a synonym before, its display after, and tinted nowhere.
+/// A synonym of the card's own is one on both sides, with the names that are shortened in it.
 #[test]
 fn own_synonyms() {
-    let out = shown(&["shorten", "-"], "mod m { const k: (Y := u8) = raw \"\"; }");
-    let row = out.lines().nth(2).expect("a row");
-    assert!(
-        row.starts_with("    const k: (Y := u8) = raw \"\";")
-            && row.ends_with("|     const k: Y = raw \"\";"),
-        "{out}"
-    );
+    let out =
+        shown(&["shorten", "-"], "mod m { const k: (Y := F<::X>) = 1; const l: (::X := u8)<::X> = 1; }");
+    let rows: Vec<&str> = out.lines().skip(3).collect();
+    for (row, before, after) in [
+        (rows[0], "const k: (Y := F<~::X>) = 1;", "const k: (Y := F<~X>) = 1;"),
+        (rows[1], "const l: (~::X := u8)<~::X> = 1;", "const l: (~X := u8)<~X> = 1;"),
+    ] {
+        let (left, right) = row.split_once(" | ").expect("two columns");
+        assert_eq!((left.trim(), right.trim()), (before, after));
+    }
+    assert!(out.contains("3 names shortened, 1 use put in"), "{out}");
 }
 
 #[test]

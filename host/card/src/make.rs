@@ -202,7 +202,20 @@ impl<'t> Parser<'t> {
             return self.due(class.words());
         }
         let made = self.along(at, rules, Vec::new())?;
+        if made.kind == kinds::EXPR_FROM_PATH {
+            self.ends_path()?;
+        }
         self.going_on(class, made)
+    }
+
+    /// Behind a path that is an expression. `::a ::b` would select a function from `::a`, and read like a path.
+    fn ends_path(&mut self) -> Result<(), Wrong> {
+        let end = self.at;
+        if self.sees("::") && !self.sees("::<") && self.at > end {
+            return self
+                .wrong("no blank may stand in a path, and a function is selected as in `(::a::X)::f`");
+        }
+        Ok(())
     }
 
     /// The rules whose patterns start as the text does here. Several have the first pieces in common.

@@ -142,6 +142,12 @@ fn wrong_lines() {
         ("mod m { impl <T> X for Y Z }", 1, 26, "`{` is due here, and not `Z`"),
         ("mod m { const k: u8 = (a; b, c); }", 1, 28, "`)` is due here, and not `,`"),
         ("mod m { const k: u8 = (a; b + c); }", 1, 29, "`)` is due here, and not `+`"),
+        (
+            "mod m { const k: u8 = crate::a\n  ::b; }",
+            2,
+            3,
+            "no blank may stand in a path, and a function is selected as in `(::a::X)::f`",
+        ),
         ("mod m { impl X z }", 1, 16, "`for` or `{` is due here, and not `z`"),
     ] {
         let fault = make::make(text.as_bytes()).expect_err(text);

@@ -153,7 +153,11 @@ fn any_width() {
     let pair = shortening.of(&card).expect("a sound card");
     for width in [0, 1, 24, 25, 40, 79, 200, 5_000, usize::MAX] {
         let out = card::view::Screen { width, color: false }.pair(&pair, card.len());
-        let most = width.clamp(24, 1_000).max(70);
-        assert!(out.lines().all(|line| line.len() <= most), "{width}: {out}");
+        let width = width.clamp(24, 1_000);
+        let mut rows: Vec<&str> = out.lines().collect();
+        rows.pop();
+        assert!(rows.iter().all(|row| row.len() <= width), "{width}: {out}");
+        let bar = (width - 3) / 2 + 1;
+        assert!(rows.iter().all(|row| matches!(row.as_bytes()[bar], b'|' | b'+')), "{width}: {out}");
     }
 }

@@ -18,7 +18,7 @@ pub struct Fault {
 
 /// The bytes of the card that the text spells; it is a sound one.
 pub fn make(text: &[u8]) -> Result<Vec<u8>, Fault> {
-    let tree = Parser::new(text).whole(kinds::MODULE).map_err(|wrong| fault(text, wrong))?;
+    let tree = Parser::new(text).whole().map_err(|wrong| fault(text, wrong))?;
     let (mut card, mut starts) = (Vec::new(), Vec::new());
     tree.write(&mut card, &mut starts);
     let Some(refusal) = records::read(&card).refusal else { return Ok(card) };
@@ -28,9 +28,13 @@ pub fn make(text: &[u8]) -> Result<Vec<u8>, Fault> {
     Err(fault(text, Wrong { at, what: unsound(refusal) }))
 }
 
-/// A path's record, spelled as Rust writes it.
+/// A path's record, spelled as Rust writes it, with nothing behind it: `crate//a` is not `crate` with a comment.
 pub fn path(text: &[u8]) -> Result<Vec<u8>, Fault> {
-    let path = Parser::new(text).whole(kinds::PATH).map_err(|wrong| fault(text, wrong))?;
+    let mut parser = Parser::new(text);
+    let path = parser.path().map_err(|wrong| fault(text, wrong))?;
+    if parser.at < text.len() {
+        return parser.wrong("the path ends before the text does").map_err(|wrong| fault(text, wrong));
+    }
     Ok(path.to_bytes())
 }
 
@@ -78,8 +82,8 @@ impl<'t> Parser<'t> {
         Parser { text, at: 0, nested: 0, leads: Vec::new() }
     }
 
-    fn whole(&mut self, class: Class) -> Made {
-        let tree = self.of(class)?;
+    fn whole(&mut self) -> Made {
+        let tree = self.of(kinds::MODULE)?;
         self.blanks();
         if self.at < self.text.len() {
             return self.wrong("the end of the text is due here");

@@ -110,8 +110,10 @@ impl Screen {
         (self.width().min(MOST_WIDTH) - 3) / 2
     }
 
+    /// A row that goes on from the one above has `:` between, so that no blanks in a card's text make a line of their own.
     fn row(&self, out: &mut String, before: &[Strip], after: &[Strip], between: char) {
         for i in 0..before.len().max(after.len()) {
+            let between = if i == 0 { between } else { ':' };
             let width = before.get(i).map_or(0, |strip| self.strip(out, strip));
             out.push_str(&" ".repeat(self.column().saturating_sub(width)));
             out.push_str(&format!(" {between}"));

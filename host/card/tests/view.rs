@@ -32,7 +32,7 @@ mod m {                                | mod m {
         type X = F<~::B>;              |         type X = F<~B>;
     }                                  |     }
     const k: ~::a::Long =              |     const k: ~Long = ~rd!(1);
-        ~::a::rd!(1);                  |
+        ~::a::rd!(1);                  :
 }                                      | }
 4 names shortened, 3 uses put in (~ a shortened name, + a use put in)
 ";
@@ -41,6 +41,17 @@ mod m {                                | mod m {
     assert!(tinted.contains("\x1b[36mpub use ::a::rd;\x1b[0m\n"), "{tinted}");
     assert!(tinted.contains("\x1b[33m::a::Long\x1b[0m ="), "{tinted}");
     assert!(tinted.contains("const k: \x1b[1;32mLong\x1b[0m = \x1b[1;32mrd!\x1b[0m(1);\n"), "{tinted}");
+}
+
+/// Blanks in a text move what follows them to another row, which is not taken for a line of the card.
+#[test]
+fn a_text_makes_no_line() {
+    let doc = format!("Waits.{}pub fn off() {{ ~desk::off(7) }}{}", " ".repeat(70), " ".repeat(70));
+    let text = format!("mod m {{ doc \"{doc}\" fn f() {{ x }} }}");
+    let out = shown(&["shorten", "-"], &text);
+    let lines: Vec<&str> = out.lines().filter(|row| row.as_bytes().get(39) == Some(&b'|')).collect();
+    assert_eq!(lines.len(), 1 + shown(&["show", "-"], &text).lines().count(), "{out}");
+    assert!(out.contains("off(7)") && lines.iter().all(|row| !row.contains("off(7)")), "{out}");
 }
 
 /// A synonym of the card's own is one on both sides, with the names that are shortened in it.
@@ -158,6 +169,6 @@ fn any_width() {
         rows.pop();
         assert!(rows.iter().all(|row| row.len() <= width), "{width}: {out}");
         let bar = (width - 3) / 2 + 1;
-        assert!(rows.iter().all(|row| matches!(row.as_bytes()[bar], b'|' | b'+')), "{width}: {out}");
+        assert!(rows.iter().all(|row| matches!(row.as_bytes()[bar], b'|' | b'+' | b':')), "{width}: {out}");
     }
 }

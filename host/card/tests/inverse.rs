@@ -37,12 +37,15 @@ fn kinds_in(node: &records::Node, seen: &mut HashSet<u16>) {
 fn every_kind() {
     for kind in kinds::KINDS {
         let mut draws = Draws::new(kind.number as u64);
+        let mut cards = 0;
         for _ in 0..60 {
             let mut trees = Trees { draws: &mut draws, left: 20, paths: false };
             let node = trees.of_kind(kind.number, least(kind.number) + 6);
             let Some(card) = around(&mut trees, node) else { continue };
             there_and_back(&card.to_bytes());
+            cards += 1;
         }
+        assert!(cards > 10, "{}: {cards}", kind.name);
     }
 }
 

@@ -5,7 +5,7 @@ mod common;
 use card::make;
 use card::pair::Shortening;
 use card::show::{Line, Tint};
-use common::{card_of_paths, run, Draws};
+use common::{card_of_paths, run, sound_card, Draws};
 
 const FINALE: &str = include_str!("../examples/finale.txt");
 
@@ -114,6 +114,43 @@ fn the_page() {
     assert_eq!(answer.status, 1);
     let page = String::from_utf8(answer.out).expect("ASCII");
     assert!(page.contains("short record (4) at byte 6: ") && page.ends_with("</html>\n"));
+}
+
+/// What a reader sees of a part of a page: no tags, and no path that is only shown when pointed at.
+fn seen(page: &str) -> String {
+    let (mut text, mut rest) = (String::new(), page);
+    while let Some((before, tagged)) = rest.split_once('<') {
+        text.push_str(before);
+        let (tag, behind) = tagged.split_once('>').expect("a tag ends");
+        let hidden = tag.contains("tooltip");
+        rest = if hidden { behind.split_once("</span>").expect("a span ends").1 } else { behind };
+    }
+    text.push_str(rest);
+    let text = text.replace("&lt;", "<").replace("&gt;", ">").replace("&quot;", "\"").replace("&#39;", "'");
+    text.replace("&amp;", "&")
+}
+
+/// Of a random card: the page has every line of it, in full, on its side.
+#[test]
+fn the_page_leaves_nothing_out() {
+    let mut draws = Draws::new(7);
+    for i in 0..1_000 {
+        let card = if i % 2 == 0 { card_of_paths(&mut draws) } else { sound_card(&mut draws) };
+        let shortening = Shortening { root: vegashol::CRATE.to_vec(), straight: draws.once_in(2) };
+        let Ok(pair) = shortening.of(&card) else { continue };
+        let page = card::html::pair("x", &pair, card.len());
+        let rows: Vec<&str> = page.lines().filter(|line| line.starts_with("<div class=\"row ")).collect();
+        assert_eq!(rows.len(), 1 + pair.rows.len());
+        for (html, row) in rows[1..].iter().zip(&pair.rows) {
+            let (before, after) = html.split_once("<div class=\"after\">").expect("two columns");
+            let text = |line: &Option<Line>| line.as_ref().map(Line::text).unwrap_or_default();
+            assert_eq!((seen(before), seen(after)), (text(&row.before), text(&row.after)));
+        }
+        let before: Vec<String> =
+            pair.rows.iter().filter_map(|row| row.before.as_ref()).map(Line::text).collect();
+        let shown = String::from_utf8(run(&["show", "-"], &card).out).expect("ASCII");
+        assert_eq!(before, shown.lines().map(str::trim_start).collect::<Vec<_>>());
+    }
 }
 
 /// With each short name's path in its place, without the parentheses that one may need and the other not.

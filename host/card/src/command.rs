@@ -28,7 +28,7 @@ pub struct Around<'a> {
     pub errors: &'a mut dyn Write,
     /// Whether the output is a terminal.
     pub terminal: bool,
-    /// Whether NO_COLOR asks for none.
+    /// Whether NO_COLOR asks for none, or TERM is a terminal that has none.
     pub no_color: bool,
     /// How wide the output is, if that is known.
     pub width: Option<usize>,

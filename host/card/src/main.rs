@@ -15,7 +15,8 @@ fn main() -> ExitCode {
         output: &mut io::stdout().lock(),
         errors: &mut io::stderr().lock(),
         terminal,
-        no_color: env::var_os("NO_COLOR").is_some_and(|value| !value.is_empty()),
+        no_color: env::var_os("NO_COLOR").is_some_and(|value| !value.is_empty())
+            || env::var_os("TERM").is_some_and(|term| term == "dumb"),
         width: width(terminal),
     };
     ExitCode::from(run(&arguments, &mut around))

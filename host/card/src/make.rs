@@ -18,7 +18,7 @@ pub struct Fault {
 
 /// The bytes of the card that the text spells; it is a sound one.
 pub fn make(text: &[u8]) -> Result<Vec<u8>, Fault> {
-    let tree = Parser::new(text).whole(kinds::MODULE).map_err(|wrong| fault(text, wrong))?;
+    let tree = Parser::new(text).whole().map_err(|wrong| fault(text, wrong))?;
     let (mut card, mut starts) = (Vec::new(), Vec::new());
     tree.write(&mut card, &mut starts);
     let Some(refusal) = records::read(&card).refusal else { return Ok(card) };
@@ -28,9 +28,13 @@ pub fn make(text: &[u8]) -> Result<Vec<u8>, Fault> {
     Err(fault(text, Wrong { at, what: unsound(refusal) }))
 }
 
-/// A path's record, spelled as Rust writes it.
+/// A path's record, spelled as Rust writes it, with nothing behind it: `crate//a` is not `crate` with a comment.
 pub fn path(text: &[u8]) -> Result<Vec<u8>, Fault> {
-    let path = Parser::new(text).whole(kinds::PATH).map_err(|wrong| fault(text, wrong))?;
+    let mut parser = Parser::new(text);
+    let path = parser.path().map_err(|wrong| fault(text, wrong))?;
+    if parser.at < text.len() {
+        return parser.wrong("the path ends before the text does").map_err(|wrong| fault(text, wrong));
+    }
     Ok(path.to_bytes())
 }
 
@@ -78,8 +82,8 @@ impl<'t> Parser<'t> {
         Parser { text, at: 0, nested: 0, leads: Vec::new() }
     }
 
-    fn whole(&mut self, class: Class) -> Made {
-        let tree = self.of(class)?;
+    fn whole(&mut self) -> Made {
+        let tree = self.of(kinds::MODULE)?;
         self.blanks();
         if self.at < self.text.len() {
             return self.wrong("the end of the text is due here");
@@ -202,7 +206,20 @@ impl<'t> Parser<'t> {
             return self.due(class.words());
         }
         let made = self.along(at, rules, Vec::new())?;
+        if made.kind == kinds::EXPR_FROM_PATH {
+            self.ends_path()?;
+        }
         self.going_on(class, made)
+    }
+
+    /// Behind a path that is an expression. `::a ::b` would select a function from `::a`, and read like a path.
+    fn ends_path(&mut self) -> Result<(), Wrong> {
+        let end = self.at;
+        if self.sees("::") && !self.sees("::<") && self.at > end {
+            return self
+                .wrong("no blank may stand in a path, and a function is selected as in `(::a::X)::f`");
+        }
+        Ok(())
     }
 
     /// The rules whose patterns start as the text does here. Several have the first pieces in common.

@@ -80,7 +80,7 @@ fn rows(before: &Node, after: &Node, marks: &HashMap<usize, Mark>) -> Vec<Row> {
     let (mut long, mut short) = (Tints::new(), Tints::new());
     tint(before, after, marks, &mut long, &mut short);
     let before = show::show(before, &Look { tints: long, ..Look::default() });
-    let after = show::show(after, &Look { tints: short, display: true, mark: None });
+    let after = show::show(after, &Look { tints: short, ..Look::default() });
     let mut before = before.lines.into_iter();
     let mut rows: Vec<Row> = after
         .lines

@@ -74,8 +74,7 @@ pub fn text(tree: &Node) -> String {
 /// How a tree is shown.
 #[derive(Default)]
 pub struct Look {
-    /// A synonym as its display alone.
-    pub display: bool,
+    /// A synonym that is a short name is shown as its display alone; every other in full.
     pub tints: Tints,
     /// The offset of a record to be marked.
     pub mark: Option<usize>,
@@ -178,7 +177,7 @@ impl Writer<'_> {
     }
 
     fn content(&mut self, node: &Node) -> Going {
-        if let (true, kinds::SYNONYM, Some(display)) = (self.look.display, node.kind, node.kids.first()) {
+        if let Some(display) = self.display(node) {
             return self.node(display);
         }
         let Some(rule) = rule(node.kind) else { return Ok(()) };
@@ -353,11 +352,16 @@ impl Writer<'_> {
         self.new_line(declaration);
     }
 
-    fn wants_parentheses(&self, node: &Node, place: Place) -> bool {
-        let mut node = node;
-        while let (true, kinds::SYNONYM, Some(display)) = (self.look.display, node.kind, node.kids.first()) {
-            node = display;
+    /// What a synonym displays, where it is a short name.
+    fn display<'n, 'c>(&self, node: &'n Node<'c>) -> Option<&'n Node<'c>> {
+        match (node.kind, self.look.tints.get(&node.at)) {
+            (kinds::SYNONYM, Some(Tint::Short(_))) => node.kids.first(),
+            _ => None,
         }
+    }
+
+    fn wants_parentheses(&self, node: &Node, place: Place) -> bool {
+        let node = self.display(node).unwrap_or(node);
         match place {
             _ if node.kind == kinds::SEQUENCE => place != Place::Braces,
             Place::Braces | Place::Free => false,

@@ -93,7 +93,7 @@ pub fn number(bytes: &[u8]) -> String {
     }
 }
 
-/// An operator and the space that it needs behind it.
+/// Bare where it is one of these, else in quotes behind `op`.
 pub fn operator(bytes: &[u8], bare: &[&str]) -> String {
     match bare.iter().find(|operator| operator.as_bytes() == bytes) {
         Some(operator) => operator.to_string(),

@@ -53,7 +53,7 @@ impl Screen {
         let mut out = String::new();
         let head = |title: &str, bytes: usize| {
             let letters = letters(&format!("{title}, {}", count(bytes, "byte")), Style::Head);
-            [Strip { indent: 0, letters }]
+            in_rows(&letters, 0, self.column())
         };
         self.row(&mut out, &head("before", bytes), &head("after", pair.output.len()), '|');
         for row in &pair.rows {
@@ -110,8 +110,10 @@ impl Screen {
         (self.width().min(MOST_WIDTH) - 3) / 2
     }
 
+    /// A row that goes on from the one above has `:` between, so that no blanks in a card's text make a line of their own.
     fn row(&self, out: &mut String, before: &[Strip], after: &[Strip], between: char) {
         for i in 0..before.len().max(after.len()) {
+            let between = if i == 0 { between } else { ':' };
             let width = before.get(i).map_or(0, |strip| self.strip(out, strip));
             out.push_str(&" ".repeat(self.column().saturating_sub(width)));
             out.push_str(&format!(" {between}"));
@@ -140,9 +142,9 @@ impl Screen {
         strip.indent + end
     }
 
-    /// A line in rows of at most so many letters, the further ones further in.
+    /// A line with its tints, in rows.
     fn wrapped(&self, line: &Line, width: usize) -> Vec<Strip> {
-        let mut rest = Vec::new();
+        let mut all = Vec::new();
         for span in &line.spans {
             let style = match &span.tint {
                 None => Style::Plain,
@@ -151,22 +153,28 @@ impl Screen {
                 Some(Tint::Use) => Style::Use,
             };
             if !self.color && matches!(style, Style::Long | Style::Short) {
-                rest.push(('~', style));
+                all.push(('~', style));
             }
-            rest.extend(letters(&span.text, style));
+            all.extend(letters(&span.text, style));
         }
-        let indent = (INDENT * line.indent).min(width / 3);
-        let mut rows = Vec::new();
-        let mut at = 0;
-        loop {
-            let indent = if rows.is_empty() { indent } else { (indent + INDENT).min(width / 2) };
-            let room = width - indent;
-            let end = if rest.len() - at <= room { rest.len() } else { at + break_at(&rest[at..at + room]) };
-            rows.push(Strip { indent, letters: rest[at..end].to_vec() });
-            at = end;
-            if at == rest.len() {
-                return rows;
-            }
+        in_rows(&all, line.indent, width)
+    }
+}
+
+/// In rows of at most so many letters, the further ones further in.
+fn in_rows(letters: &[(char, Style)], indent: usize, width: usize) -> Vec<Strip> {
+    let indent = (INDENT * indent).min(width / 3);
+    let mut rows = Vec::new();
+    let mut at = 0;
+    loop {
+        let indent = if rows.is_empty() { indent } else { (indent + INDENT).min(width / 2) };
+        let rest = &letters[at..];
+        let room = width - indent;
+        let end = if rest.len() <= room { rest.len() } else { break_at(&rest[..room]) };
+        rows.push(Strip { indent, letters: rest[..end].to_vec() });
+        at += end;
+        if at == letters.len() {
+            return rows;
         }
     }
 }

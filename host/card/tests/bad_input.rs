@@ -100,7 +100,8 @@ fn options() {
     refuses(&run(&["sow", &finale]), 2, "there is no command sow");
     for command in ["shorten", "html"] {
         refuses(&run(&[command, &finale, "--root"]), 2, "--root wants a value");
-        for root in ["", "a", "::a b", "crate::", "::a::mod", "Self::\"", "crate::a,"] {
+        for root in ["", "a", "::a b", "crate::", "::a::mod", "Self::\"", "crate::a,", "crate//a", "crate //"]
+        {
             refuses(&run(&[command, &finale, "--root", root]), 1, "is no path");
         }
         for root in ["::a::\"\"", "::a::\"!\"", "::a::b::c::d::e::f::g::h"] {

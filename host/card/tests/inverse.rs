@@ -37,12 +37,15 @@ fn kinds_in(node: &records::Node, seen: &mut HashSet<u16>) {
 fn every_kind() {
     for kind in kinds::KINDS {
         let mut draws = Draws::new(kind.number as u64);
+        let mut cards = 0;
         for _ in 0..60 {
             let mut trees = Trees { draws: &mut draws, left: 20, paths: false };
             let node = trees.of_kind(kind.number, least(kind.number) + 6);
             let Some(card) = around(&mut trees, node) else { continue };
             there_and_back(&card.to_bytes());
+            cards += 1;
         }
+        assert!(cards > 10, "{}: {cards}", kind.name);
     }
 }
 
@@ -142,6 +145,12 @@ fn wrong_lines() {
         ("mod m { impl <T> X for Y Z }", 1, 26, "`{` is due here, and not `Z`"),
         ("mod m { const k: u8 = (a; b, c); }", 1, 28, "`)` is due here, and not `,`"),
         ("mod m { const k: u8 = (a; b + c); }", 1, 29, "`)` is due here, and not `+`"),
+        (
+            "mod m { const k: u8 = crate::a\n  ::b; }",
+            2,
+            3,
+            "no blank may stand in a path, and a function is selected as in `(::a::X)::f`",
+        ),
         ("mod m { impl X z }", 1, 16, "`for` or `{` is due here, and not `z`"),
     ] {
         let fault = make::make(text.as_bytes()).expect_err(text);

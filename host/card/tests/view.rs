@@ -5,7 +5,7 @@ mod common;
 use card::make;
 use card::pair::Shortening;
 use card::show::{Line, Tint};
-use common::{card_of_paths, run, Draws};
+use common::{card_of_paths, run, sound_card, Draws};
 
 const FINALE: &str = include_str!("../examples/finale.txt");
 
@@ -32,7 +32,7 @@ mod m {                                | mod m {
         type X = F<~::B>;              |         type X = F<~B>;
     }                                  |     }
     const k: ~::a::Long =              |     const k: ~Long = ~rd!(1);
-        ~::a::rd!(1);                  |
+        ~::a::rd!(1);                  :
 }                                      | }
 4 names shortened, 3 uses put in (~ a shortened name, + a use put in)
 ";
@@ -43,16 +43,31 @@ mod m {                                | mod m {
     assert!(tinted.contains("const k: \x1b[1;32mLong\x1b[0m = \x1b[1;32mrd!\x1b[0m(1);\n"), "{tinted}");
 }
 
-/// A synonym of the card's own is a synonym before, its display after, and tinted nowhere.
+/// Blanks in a text move what follows them to another row, which is not taken for a line of the card.
+#[test]
+fn a_text_makes_no_line() {
+    let doc = format!("Waits.{}pub fn off() {{ ~desk::off(7) }}{}", " ".repeat(70), " ".repeat(70));
+    let text = format!("mod m {{ doc \"{doc}\" fn f() {{ x }} }}");
+    let out = shown(&["shorten", "-"], &text);
+    let lines: Vec<&str> = out.lines().filter(|row| row.as_bytes().get(39) == Some(&b'|')).collect();
+    assert_eq!(lines.len(), 1 + shown(&["show", "-"], &text).lines().count(), "{out}");
+    assert!(out.contains("off(7)") && lines.iter().all(|row| !row.contains("off(7)")), "{out}");
+}
+
+/// A synonym of the card's own is one on both sides, with the names that are shortened in it.
 #[test]
 fn own_synonyms() {
-    let out = shown(&["shorten", "-"], "mod m { const k: (Y := u8) = raw \"\"; }");
-    let row = out.lines().nth(2).expect("a row");
-    assert!(
-        row.starts_with("    const k: (Y := u8) = raw \"\";")
-            && row.ends_with("|     const k: Y = raw \"\";"),
-        "{out}"
-    );
+    let out =
+        shown(&["shorten", "-"], "mod m { const k: (Y := F<::X>) = 1; const l: (::X := u8)<::X> = 1; }");
+    let rows: Vec<&str> = out.lines().skip(3).collect();
+    for (row, before, after) in [
+        (rows[0], "const k: (Y := F<~::X>) = 1;", "const k: (Y := F<~X>) = 1;"),
+        (rows[1], "const l: (~::X := u8)<~::X> = 1;", "const l: (~X := u8)<~X> = 1;"),
+    ] {
+        let (left, right) = row.split_once(" | ").expect("two columns");
+        assert_eq!((left.trim(), right.trim()), (before, after));
+    }
+    assert!(out.contains("3 names shortened, 1 use put in"), "{out}");
 }
 
 #[test]
@@ -99,6 +114,43 @@ fn the_page() {
     assert_eq!(answer.status, 1);
     let page = String::from_utf8(answer.out).expect("ASCII");
     assert!(page.contains("short record (4) at byte 6: ") && page.ends_with("</html>\n"));
+}
+
+/// What a reader sees of a part of a page: no tags, and no path that is only shown when pointed at.
+fn seen(page: &str) -> String {
+    let (mut text, mut rest) = (String::new(), page);
+    while let Some((before, tagged)) = rest.split_once('<') {
+        text.push_str(before);
+        let (tag, behind) = tagged.split_once('>').expect("a tag ends");
+        let hidden = tag.contains("tooltip");
+        rest = if hidden { behind.split_once("</span>").expect("a span ends").1 } else { behind };
+    }
+    text.push_str(rest);
+    let text = text.replace("&lt;", "<").replace("&gt;", ">").replace("&quot;", "\"").replace("&#39;", "'");
+    text.replace("&amp;", "&")
+}
+
+/// Of a random card: the page has every line of it, in full, on its side.
+#[test]
+fn the_page_leaves_nothing_out() {
+    let mut draws = Draws::new(7);
+    for i in 0..1_000 {
+        let card = if i % 2 == 0 { card_of_paths(&mut draws) } else { sound_card(&mut draws) };
+        let shortening = Shortening { root: vegashol::CRATE.to_vec(), straight: draws.once_in(2) };
+        let Ok(pair) = shortening.of(&card) else { continue };
+        let page = card::html::pair("x", &pair, card.len());
+        let rows: Vec<&str> = page.lines().filter(|line| line.starts_with("<div class=\"row ")).collect();
+        assert_eq!(rows.len(), 1 + pair.rows.len());
+        for (html, row) in rows[1..].iter().zip(&pair.rows) {
+            let (before, after) = html.split_once("<div class=\"after\">").expect("two columns");
+            let text = |line: &Option<Line>| line.as_ref().map(Line::text).unwrap_or_default();
+            assert_eq!((seen(before), seen(after)), (text(&row.before), text(&row.after)));
+        }
+        let before: Vec<String> =
+            pair.rows.iter().filter_map(|row| row.before.as_ref()).map(Line::text).collect();
+        let shown = String::from_utf8(run(&["show", "-"], &card).out).expect("ASCII");
+        assert_eq!(before, shown.lines().map(str::trim_start).collect::<Vec<_>>());
+    }
 }
 
 /// With each short name's path in its place, without the parentheses that one may need and the other not.
@@ -149,7 +201,11 @@ fn any_width() {
     let pair = shortening.of(&card).expect("a sound card");
     for width in [0, 1, 24, 25, 40, 79, 200, 5_000, usize::MAX] {
         let out = card::view::Screen { width, color: false }.pair(&pair, card.len());
-        let most = width.clamp(24, 1_000).max(70);
-        assert!(out.lines().all(|line| line.len() <= most), "{width}: {out}");
+        let width = width.clamp(24, 1_000);
+        let mut rows: Vec<&str> = out.lines().collect();
+        rows.pop();
+        assert!(rows.iter().all(|row| row.len() <= width), "{width}: {out}");
+        let bar = (width - 3) / 2 + 1;
+        assert!(rows.iter().all(|row| matches!(row.as_bytes()[bar], b'|' | b'+' | b':')), "{width}: {out}");
     }
 }

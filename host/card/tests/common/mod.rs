@@ -77,7 +77,7 @@ pub struct Trees<'d> {
     pub draws: &'d mut Draws,
     /// About how many records may still come.
     pub left: usize,
-    /// Many paths of few names, and no synonym.
+    /// Many paths of few names.
     pub paths: bool,
 }
 
@@ -130,8 +130,6 @@ impl Trees<'_> {
             }
         }
         let kinds: Vec<u16> = (class.first..=class.last).filter(|kind| least(*kind) <= depth).collect();
-        let kinds: Vec<u16> =
-            kinds.into_iter().filter(|kind| !self.paths || *kind != kinds::SYNONYM).collect();
         let small: Vec<u16> = kinds.iter().copied().filter(|kind| least(*kind) <= 4).collect();
         if self.left == 0 && !small.is_empty() {
             return small[self.draws.below(small.len())];

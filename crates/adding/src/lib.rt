@@ -66,7 +66,7 @@ pub fn add(
     let w = comparing::base_word(op, card, base);
     let first = chains::head(work, b);
     let want = Want::Based(w);
-    if 0 < chains::seek_by(op, card, root, chain, work, first, name, number, want) {
+    if 0 < seeking::seek_by(op, card, root, chain, work, first, name, number, want) {
         return n;
     }
     if n == most {

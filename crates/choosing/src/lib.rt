@@ -21,11 +21,11 @@ fn chosen_of_several(
     ensures { λ r. ⌜ r ≡ chosenOfSeveral (scope op (now (card .entry)) (now (root .entry)) (now (chain .entry)))
         (now (work .entry)) (now (name .entry)) first ⌝ }
 {
-    let p = chains::seek(op, card, root, chain, work, first, name, Want::Based(0));
+    let p = seeking::seek(op, card, root, chain, work, first, name, Want::Based(0));
     if 0 < p {
         return p;
     }
-    chains::seek(op, card, root, chain, work, first, name, Want::Runtime)
+    seeking::seek(op, card, root, chain, work, first, name, Want::Runtime)
 }
 
 // The pair that has the base chosen for a name: its only one, else as above.
@@ -43,12 +43,12 @@ pub fn chosen(
     let number = hash % 65536;
     let want = Want::Named;
     let first = chains::head(work, chains::bucket_by(work, hash));
-    let one = chains::seek_by(op, card, root, chain, work, first, name, number, want);
+    let one = seeking::seek_by(op, card, root, chain, work, first, name, number, want);
     if one == 0 {
         return 0;
     }
     let after = chains::next(work, one);
-    let two = chains::seek_by(op, card, root, chain, work, after, name, number, want);
+    let two = seeking::seek_by(op, card, root, chain, work, after, name, number, want);
     if two == 0 {
         return one;
     }
@@ -73,7 +73,7 @@ fn chosen_after(
     let number = hash % 65536;
     let want = Want::Named;
     let first = chains::head(work, chains::bucket_by(work, hash));
-    if chains::seek_by(op, card, root, chain, work, first, name, number, want) == g {
+    if seeking::seek_by(op, card, root, chain, work, first, name, number, want) == g {
         return g;
     }
     chosen(op, card, root, chain, work, name)
@@ -99,7 +99,7 @@ pub fn use_of(
     let k = 4 * (g - 1);
     let name = wire::part(card, wire::word(work[k]) % 65536, wire::word(work[k + 1]));
     let after = chains::next(work, g);
-    if 0 < chains::seek(op, card, root, chain, work, after, name, Want::Named) {
+    if 0 < seeking::seek(op, card, root, chain, work, after, name, Want::Named) {
         return 0;
     }
     let c = chosen_after(op, card, root, chain, work, name, g);

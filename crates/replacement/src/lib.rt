@@ -44,12 +44,12 @@ fn replaces(
     let number = hash % 65536;
     let want = Want::Named;
     let first = chains::head(work, chains::bucket_by(work, hash));
-    let one = chains::seek_by(op, card, root, chain, work, first, name, number, want);
+    let one = seeking::seek_by(op, card, root, chain, work, first, name, number, want);
     if one == 0 {
         return false;
     }
     let after = chains::next(work, one);
-    let two = chains::seek_by(op, card, root, chain, work, after, name, number, want);
+    let two = seeking::seek_by(op, card, root, chain, work, after, name, number, want);
     if two == 0 {
         return has_base(op, card, root, chain, work, one, base);
     }

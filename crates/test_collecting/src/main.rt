@@ -66,7 +66,7 @@ fn say_pair(card: &[u8], root: &[u8], chain: &[usize], work: &[u32], g: usize) {
 fn is_first(card: &[u8], root: &[u8], chain: &[usize], work: &[u32], g: usize) -> bool {
     let older = chains::next(work, g);
     let name = name_of(card, work, g);
-    chains::seek(
+    seeking::seek(
         Shortening::Upstream,
         card,
         root,

@@ -11,7 +11,7 @@ use Rattle.adding.proofs.put.Reads as put-reads
 use Rattle.chains.proofs.bucket_by.Reads as bucket-by-reads
 use Rattle.chains.proofs.head.Reads as head-reads
 use Rattle.chains.proofs.room.Reads as room-reads
-use Rattle.chains.proofs.seek_by.Reads as seek-by-reads
+use Rattle.seeking.proofs.seek_by.Reads as seek-by-reads
 use Rattle.comparing.proofs.base_word.Reads as base-word-reads
 use Rattle.comparing.proofs.hash.Reads as hash-reads
 use Rattle.wire.proofs.part.Reads as part-reads

@@ -10,7 +10,7 @@ use Rattle.choosing.proofs.chosen.Lts as lts
 use Rattle.chains.proofs.bucket_by.Reads as bucket-by-reads
 use Rattle.chains.proofs.head.Reads as head-reads
 use Rattle.chains.proofs.next.Reads as next-reads
-use Rattle.chains.proofs.seek_by.Reads as seek-by-reads
+use Rattle.seeking.proofs.seek_by.Reads as seek-by-reads
 use Rattle.comparing.proofs.hash.Reads as hash-reads
 use Rattle.choosing.proofs.chosen_of_several.Reads as chosen-of-several-reads
 

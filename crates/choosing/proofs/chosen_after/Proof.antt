@@ -9,7 +9,7 @@ use Rattle.choosing.proofs.chosen_after.Reads as reads
 use Rattle.choosing.proofs.chosen_after.Lts as lts
 use Rattle.chains.proofs.bucket_by.Reads as bucket-by-reads
 use Rattle.chains.proofs.head.Reads as head-reads
-use Rattle.chains.proofs.seek_by.Reads as seek-by-reads
+use Rattle.seeking.proofs.seek_by.Reads as seek-by-reads
 use Rattle.comparing.proofs.hash.Reads as hash-reads
 use Rattle.choosing.proofs.chosen.Reads as chosen-reads
 

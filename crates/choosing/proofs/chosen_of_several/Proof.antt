@@ -6,7 +6,7 @@ use Rattle.choosing.proofs.chosen_of_several.Statement.{statement}
 use Rattle.choosing.proofs.chosen_of_several.Tie as tie
 use Rattle.choosing.proofs.chosen_of_several.Reads as reads
 use Rattle.choosing.proofs.chosen_of_several.Lts as lts
-use Rattle.chains.proofs.seek.Reads as seek-reads
+use Rattle.seeking.proofs.seek.Reads as seek-reads
 
 seek-requires : tie.Need-seek-requires
 seek-requires c κs = search needs

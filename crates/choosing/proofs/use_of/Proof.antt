@@ -9,7 +9,7 @@ use Rattle.choosing.proofs.use_of.Reads as reads
 use Rattle.choosing.proofs.use_of.Lts as lts
 use Rattle.chains.proofs.next.Reads as next-reads
 use Rattle.chains.proofs.room.Reads as room-reads
-use Rattle.chains.proofs.seek.Reads as seek-reads
+use Rattle.seeking.proofs.seek.Reads as seek-reads
 use Rattle.choosing.proofs.chosen_after.Reads as chosen-after-reads
 use Rattle.comparing.proofs.same_base.Reads as same-base-reads
 use Rattle.wire.proofs.part.Reads as part-reads

@@ -1,13 +1,13 @@
--- `chains::is_wanted` meets its contract: the number of the base, that of the name, the name, then the base. Assumes nothing.
+-- `seeking::is_wanted` meets its contract: the number of the base, that of the name, the name, then the base. Assumes nothing.
 use Rattle.prefix.specs.Prefix.{scope}
 use Rattle.chains.proofs.Tests.{wanted-passed, wanted-number, wanted-other, wanted-same}
 use borrow.Author.Needs.{needs}
-use Rattle.chains.proofs.is_wanted.Statement.{statement}
-use Rattle.chains.proofs.is_wanted.Tie as tie
-use Rattle.chains.proofs.is_wanted.Reads as reads
-use Rattle.chains.proofs.is_wanted.Lts as lts
-use Rattle.chains.proofs.has_wanted.Reads as has-wanted-reads
-use Rattle.chains.proofs.is_other.Reads as is-other-reads
+use Rattle.seeking.proofs.is_wanted.Statement.{statement}
+use Rattle.seeking.proofs.is_wanted.Tie as tie
+use Rattle.seeking.proofs.is_wanted.Reads as reads
+use Rattle.seeking.proofs.is_wanted.Lts as lts
+use Rattle.seeking.proofs.has_wanted.Reads as has-wanted-reads
+use Rattle.seeking.proofs.is_other.Reads as is-other-reads
 use Rattle.comparing.proofs.same_name.Reads as same-name-reads
 use Rattle.wire.proofs.part.Reads as part-reads
 use Rattle.wire.proofs.word.Reads as word-reads

@@ -1,11 +1,11 @@
--- `chains::has_wanted` meets its contract, by what is sought. Assumes nothing.
+-- `seeking::has_wanted` meets its contract, by what is sought. Assumes nothing.
 use Rattle.prefix.specs.Prefix.{scope}
 use borrow.Author.Needs.{needs}
 use Rattle.chains.proofs.Tests.{wanted-named, wanted-based, runtime-prefix, runtime-path}
-use Rattle.chains.proofs.has_wanted.Statement.{statement}
-use Rattle.chains.proofs.has_wanted.Tie as tie
-use Rattle.chains.proofs.has_wanted.Reads as reads
-use Rattle.chains.proofs.has_wanted.Lts as lts
+use Rattle.seeking.proofs.has_wanted.Statement.{statement}
+use Rattle.seeking.proofs.has_wanted.Tie as tie
+use Rattle.seeking.proofs.has_wanted.Reads as reads
+use Rattle.seeking.proofs.has_wanted.Lts as lts
 use Rattle.comparing.proofs.same_base.Reads as same-base-reads
 use Rattle.paths.proofs.is_runtime.Reads as is-runtime-reads
 use Rattle.reader.proofs.record_at.Reads as record-at-reads

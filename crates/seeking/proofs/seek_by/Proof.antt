@@ -1,13 +1,13 @@
--- `chains::seek_by` meets its contract. Assumes nothing.
+-- `seeking::seek_by` meets its contract. Assumes nothing.
 use Rattle.prefix.specs.Prefix.{scope}
 use Rattle.chains.specs.Chains.{isNumbered}
 use Rattle.chains.proofs.Tests.{seek-zero}
 use borrow.Author.Needs.{needs}
-use Rattle.chains.proofs.seek_by.Statement.{statement}
-use Rattle.chains.proofs.seek_by.Tie as tie
-use Rattle.chains.proofs.seek_by.Reads as reads
-use Rattle.chains.proofs.seek_by.Lts as lts
-use Rattle.chains.proofs.seek_some.Reads as seek-some-reads
+use Rattle.seeking.proofs.seek_by.Statement.{statement}
+use Rattle.seeking.proofs.seek_by.Tie as tie
+use Rattle.seeking.proofs.seek_by.Reads as reads
+use Rattle.seeking.proofs.seek_by.Lts as lts
+use Rattle.seeking.proofs.seek_some.Reads as seek-some-reads
 
 returns : tie.Need-returns
 returns c =

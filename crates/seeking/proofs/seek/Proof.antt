@@ -1,13 +1,13 @@
--- `chains::seek` meets its contract. Assumes nothing.
+-- `seeking::seek` meets its contract. Assumes nothing.
 use Rattle.prefix.specs.Prefix.{scope}
 use Rattle.chains.specs.Chains.{isWanted}
 use Rattle.chains.proofs.Tests.{seek-zero, seek-is}
 use borrow.Author.Needs.{needs}
-use Rattle.chains.proofs.seek.Statement.{statement}
-use Rattle.chains.proofs.seek.Tie as tie
-use Rattle.chains.proofs.seek.Reads as reads
-use Rattle.chains.proofs.seek.Lts as lts
-use Rattle.chains.proofs.seek_by.Reads as seek-by-reads
+use Rattle.seeking.proofs.seek.Statement.{statement}
+use Rattle.seeking.proofs.seek.Tie as tie
+use Rattle.seeking.proofs.seek.Reads as reads
+use Rattle.seeking.proofs.seek.Lts as lts
+use Rattle.seeking.proofs.seek_by.Reads as seek-by-reads
 use Rattle.comparing.proofs.hash.Reads as hash-reads
 
 returns : tie.Need-returns

@@ -1,13 +1,13 @@
--- `chains::skip` meets its contract. Assumes nothing.
+-- `seeking::skip` meets its contract. Assumes nothing.
 use Rattle.chains.proofs.Tests.{skip-unbased, skip-prefix, skip-path}
 use mathlib.Core.Logic.{⊎-elim}
 use native.Mathlib.Omega.{arith}
 use borrow.Author.Needs.{needs}
-use Rattle.chains.proofs.skip.Statement.{statement}
-use Rattle.chains.proofs.skip.Tie as tie
-use Rattle.chains.proofs.skip.Reads as reads
-use Rattle.chains.proofs.skip.Lts as lts
-use Rattle.chains.proofs.pass.Reads as pass-reads
+use Rattle.seeking.proofs.skip.Statement.{statement}
+use Rattle.seeking.proofs.skip.Tie as tie
+use Rattle.seeking.proofs.skip.Reads as reads
+use Rattle.seeking.proofs.skip.Lts as lts
+use Rattle.seeking.proofs.pass.Reads as pass-reads
 
 enum-known-want : tie.Need-enum-known-want
 enum-known-want c = search needs

@@ -1,12 +1,12 @@
--- `chains::is_other` meets its contract, test by test. Assumes nothing.
+-- `seeking::is_other` meets its contract, test by test. Assumes nothing.
 use Rattle.chains.proofs.Tests.{other-unbased, other-prefix, other-sought-prefix, other-paths}
 use mathlib.Core.Logic.{⊎-elim}
 use native.Mathlib.Omega.{arith}
 use borrow.Author.Needs.{needs}
-use Rattle.chains.proofs.is_other.Statement.{statement}
-use Rattle.chains.proofs.is_other.Tie as tie
-use Rattle.chains.proofs.is_other.Reads as reads
-use Rattle.chains.proofs.is_other.Lts as lts
+use Rattle.seeking.proofs.is_other.Statement.{statement}
+use Rattle.seeking.proofs.is_other.Tie as tie
+use Rattle.seeking.proofs.is_other.Reads as reads
+use Rattle.seeking.proofs.is_other.Lts as lts
 
 enum-known-want : tie.Need-enum-known-want
 enum-known-want c = search needs

@@ -1,17 +1,17 @@
--- `chains::seek_some` meets its contract: what is left of the chain has what the whole has, and no pair that is passed is sought. Assumes nothing.
+-- `seeking::seek_some` meets its contract: what is left of the chain has what the whole has, and no pair that is passed is sought. Assumes nothing.
 use native.Mathlib.Omega.{arith}
 use borrow.Author.Needs.{needs}
 use Rattle.prefix.specs.Prefix.{scope}
 use Rattle.chains.specs.Chains.{isNumbered, mayHave}
 use Rattle.chains.proofs.Tests.{Seeking, seek-past, seek-start, seek-none, seek-found, seek-on, next-less, may-wanted}
-use Rattle.chains.proofs.seek_some.Statement.{statement}
-use Rattle.chains.proofs.seek_some.Tie as tie
-use Rattle.chains.proofs.seek_some.Reads as reads
-use Rattle.chains.proofs.seek_some.Lts as lts
-use Rattle.chains.proofs.is_wanted.Reads as is-wanted-reads
+use Rattle.seeking.proofs.seek_some.Statement.{statement}
+use Rattle.seeking.proofs.seek_some.Tie as tie
+use Rattle.seeking.proofs.seek_some.Reads as reads
+use Rattle.seeking.proofs.seek_some.Lts as lts
+use Rattle.seeking.proofs.is_wanted.Reads as is-wanted-reads
 use Rattle.chains.proofs.next.Reads as next-reads
 use Rattle.chains.proofs.room.Reads as room-reads
-use Rattle.chains.proofs.skip.Reads as skip-reads
+use Rattle.seeking.proofs.skip.Reads as skip-reads
 
 abbrev Inv-loop : tie.InvT-loop
 Inv-loop op card root chain work from name number want g₀ g = Seeking (isNumbered (scope op card root chain) work name number want) work from g

@@ -1,14 +1,14 @@
--- `chains::pass` meets its contract: what is left of the chain has what the whole has. Assumes nothing.
+-- `seeking::pass` meets its contract: what is left of the chain has what the whole has. Assumes nothing.
 use mathlib.Core.Path.{refl, sym, _∙_}
 use mathlib.Core.Bool.{true, false}
 use native.Mathlib.Omega.{arith}
 use borrow.Author.Needs.{needs}
 use Rattle.chains.specs.Chains.{mayBe}
 use Rattle.chains.proofs.Tests.{Seeking, seek-start, seek-none, seek-found, seek-next, link-falls, link-not, may-number, may-placeless, may-not}
-use Rattle.chains.proofs.pass.Statement.{statement}
-use Rattle.chains.proofs.pass.Tie as tie
-use Rattle.chains.proofs.pass.Reads as reads
-use Rattle.chains.proofs.pass.Lts as lts
+use Rattle.seeking.proofs.pass.Statement.{statement}
+use Rattle.seeking.proofs.pass.Tie as tie
+use Rattle.seeking.proofs.pass.Reads as reads
+use Rattle.seeking.proofs.pass.Lts as lts
 use Rattle.wire.proofs.word.Reads as word-reads
 
 abbrev Inv-loop : tie.InvT-loop

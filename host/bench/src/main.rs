@@ -1,5 +1,5 @@
-//! The console's calls, the proved code, beside two in Rust, by a typed tree and by a walk over bytes: the
-//! same answers, and how fast.
+//! The console's calls, the proved code, beside others in Rust, by a typed tree and by a walk over bytes with
+//! either of two hashes: the same answers, and how fast.
 use compare::at_random;
 use compare::cards::CRATE;
 use compare::case::{within_limits, Case};
@@ -19,9 +19,9 @@ bench [--vectors VECTORS] [--cards N] [--seed S]
 bench vectors VECTORS    only the answers to vectors
 bench random [N [SEED]]  only those to random cards
 bench only WAY CLASS TIMES [VECTORS]
-                         for a profiler: console, tree or walk over a class, straight
-                         shortening if +straight stands behind its name, with a list if
-                         +list does
+                         for a profiler: console, tree, walk or quick over a class,
+                         straight shortening if +straight stands behind its name, with a
+                         list if +list does
 bench reading WAY CLASS TIMES [VECTORS]
                          the same with cards that are only read: console or reader";
 
@@ -216,28 +216,29 @@ fn medians(cards: usize, racers: usize, mut turn: impl FnMut(usize, usize) -> Du
     times.into_iter().zip(passes).map(median).collect()
 }
 
-/// The columns that all ways share: which class, its bytes, and each way's time.
+/// The columns that both tables share: which class, its bytes, each way's time, and how many times as long as
+/// each other way the first takes.
 fn print_head() {
     print!("{:11}  {:>8}  {:>9}", "class", "bytes in", "bytes out");
-    WAYS.iter().for_each(|way| print!("  {:>9}", way.what));
+    WAYS.iter().for_each(|way| print!("  {:>8}", way.what));
+    WAYS[1..].iter().for_each(|way| print!("  {:>7}", format!("/{}", way.what)));
 }
 
 fn print_times(class: &Class, times: &[f64]) {
     let (card, output) = class.bytes();
     print!("{:11}  {card:8}  {output:9}", class.what);
-    times.iter().for_each(|time| print!("  {time:9.2}"));
+    times.iter().for_each(|time| print!("  {time:8.2}"));
+    times[1..].iter().for_each(|time| print!("  {:7.2}", times[0] / time));
 }
 
 /// Without words lent.
 fn report(classes: &[Class], room: &mut Room) {
-    println!("medians of {ROUNDS} rounds: microseconds of a card, then the times one takes of another's;");
-    let first = format!("{}/{}", WAYS[0].what, WAYS[1].what);
+    let (first, ratio) = (WAYS[0].what, format!("{}/{}", WAYS[0].what, WAYS[1].what));
+    println!("medians of {ROUNDS} rounds: microseconds of a card, then {first}'s over another's;");
     println!(
-        "with list: {first}, both with a list of places; straight: {first}, both by straight shortening"
+        "with list: {ratio}, both with a list of places; straight: {ratio}, both by straight shortening"
     );
     print_head();
-    let ratios = || (0..WAYS.len()).flat_map(|i| (i + 1..WAYS.len()).map(move |j| (i, j)));
-    ratios().for_each(|(i, j)| print!("  {:>12}", format!("{}/{}", WAYS[i].what, WAYS[j].what)));
     println!("  {:>9}  {:>8}", "with list", "straight");
     let racers = racers();
     for class in classes {
@@ -245,27 +246,22 @@ fn report(classes: &[Class], room: &mut Room) {
         let (without, rest) = times.split_at(WAYS.len());
         let (with, straight) = rest.split_at(2);
         print_times(class, without);
-        ratios().for_each(|(i, j)| print!("  {:12.2}", without[i] / without[j]));
         println!("  {:9.2}  {:8.2}", with[0] / with[1], straight[0] / straight[1]);
     }
 }
 
 /// With words lent, by the old operation without a list.
 fn report_lent(classes: &[Class], room: &mut Room) {
-    let (first, others) = (&WAYS[0], &WAYS[1..]);
-    println!("with 4,096 words lent: microseconds of a card, nanoseconds of a pair by {},", first.what);
-    println!("then the times it takes of another's");
+    let first = WAYS[0].what;
+    println!("with 4,096 words lent: microseconds of a card, then {first}'s over another's;");
+    println!("of a pair: nanoseconds of a pair by {first}");
     print_head();
-    print!("  {:>9}", "of a pair");
-    others.iter().for_each(|way| print!("  {:>12}", format!("{}/{}", first.what, way.what)));
-    println!();
+    println!("  {:>9}", "of a pair");
     let racers = &racers()[..WAYS.len()];
     for class in classes {
         let times = class.measure(racers, room);
         print_times(class, &times);
-        print!("  {:9.1}", times[0] * 1e3 / class.pairs());
-        times[1..].iter().for_each(|time| print!("  {:12.2}", times[0] / time));
-        println!();
+        println!("  {:9.1}", times[0] * 1e3 / class.pairs());
     }
 }
 

@@ -1,4 +1,4 @@
-//! `walk` and `reader` beside `tree`, on what the documents state of cards, on cards made for single quirks and on random ones, by
+//! `walk`, `quick` and `reader` beside `tree`, on what the documents state of cards, on cards made for single quirks and on random ones, by
 //! both operations and all with lists of places too; and what the classes are.
 use crate::{classes, reader, WAYS};
 use compare::cards::*;

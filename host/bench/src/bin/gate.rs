@@ -6,6 +6,7 @@ use compare::text::{self, digits, Vector};
 use compare::{own, tree, Operation, LANDED, MOST_CARD, MOST_ENTRIES, MOST_TIMES, WORDS};
 use std::env;
 use std::fs;
+use std::hash::RandomState;
 use std::ops::RangeInclusive;
 use std::process::ExitCode;
 use yardstick::walk;
@@ -95,7 +96,7 @@ fn write(folder: &str, stdin: &[u8], stdout: &[u8]) -> Result<(), String> {
 /// A card of `compare::own`, lent just what it takes. Its answer is that of the two in Rust, which must agree.
 fn of_own(operation: Operation, case: own::Case) -> Result<Vector, String> {
     let own::Case { sort, root, card, words } = case;
-    let [first, second] = [tree::shorten_places, walk::shorten_places].map(|shorten| {
+    let [first, second] = [tree::shorten_places, walk::shorten_places::<RandomState>].map(|shorten| {
         let (mut out, mut list) = (vec![0; MOST_CARD * MOST_TIMES], vec![0; 2 * MOST_ENTRIES]);
         let answer = shorten(operation, &card, &root, &mut out, words, &mut list);
         let (length, entries) = answer.unwrap_or((0, 0));

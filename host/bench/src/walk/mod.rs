@@ -1,13 +1,15 @@
 //! Shortening by a walk over the card's bytes, no tree being built. One pass reads, collects and notes
-//! where paths and modules' bodies stand. What is replaced then follows from the names, in a hash map,
-//! and so does the output's length; the second pass copies the card, going only to what changes. It shares
-//! nothing with the proved code.
+//! where paths and modules' bodies stand. What is replaced then follows from the names, in a hash map whose
+//! hashes `S` makes, and so does the output's length; the second pass copies the card, going only to what
+//! changes. It shares nothing with the proved code.
 mod names;
 mod write;
 
 use compare::rows::{Place, Shape, What, DECLARATIONS, KEPT, MODULE, PATH, ROWS, TEXT};
 use compare::{most_pairs, Answer, Listed, Operation, Refusal, MOST_CARD, MOST_ROOT, WORDS};
+pub use names::Quick;
 use names::{Names, NONE};
+use std::hash::BuildHasher;
 
 /// Something that may change.
 struct Point {
@@ -27,10 +29,10 @@ enum Sort {
     Expr(u32),
 }
 
-struct Walk<'a> {
+struct Walk<'a, S> {
     operation: Operation,
     bytes: &'a [u8],
-    names: Names<'a>,
+    names: Names<'a, S>,
     points: Vec<Point>,
     /// The innermost around what is read.
     module: u32,
@@ -60,7 +62,7 @@ fn path_at(bytes: &[u8], at: usize) -> (&[u8], &[u8]) {
     (&bytes[at + 12..base], &bytes[base + 6..end_of(bytes, at)])
 }
 
-impl<'a> Walk<'a> {
+impl<S: BuildHasher + Default> Walk<'_, S> {
     fn refuse<T>(&mut self, number: u32, place: usize) -> Option<T> {
         self.refusal = (number, place as u32);
         None
@@ -289,13 +291,19 @@ impl<'a> Walk<'a> {
 }
 
 /// The output's length, the output being at the front of `out`; or a refusal's number and place.
-pub fn shorten(operation: Operation, card: &[u8], root: &[u8], out: &mut [u8], words: usize) -> Answer {
-    let (length, _) = run(operation, card, root, out, words, None)?;
+pub fn shorten<S: BuildHasher + Default>(
+    operation: Operation,
+    card: &[u8],
+    root: &[u8],
+    out: &mut [u8],
+    words: usize,
+) -> Answer {
+    let (length, _) = run::<S>(operation, card, root, out, words, None)?;
     Ok(length)
 }
 
 /// The same with a list: the number of its entries too, each two words, at the front of `list`.
-pub fn shorten_places(
+pub fn shorten_places<S: BuildHasher + Default>(
     operation: Operation,
     card: &[u8],
     root: &[u8],
@@ -303,11 +311,11 @@ pub fn shorten_places(
     words: usize,
     list: &mut [u32],
 ) -> Listed {
-    run(operation, card, root, out, words, Some(list))
+    run::<S>(operation, card, root, out, words, Some(list))
 }
 
 #[inline(always)]
-fn run(
+fn run<S: BuildHasher + Default>(
     operation: Operation,
     card: &[u8],
     root: &[u8],
@@ -324,7 +332,7 @@ fn run(
     let mut walk = Walk {
         operation,
         bytes: root,
-        names: Names::new(root, most_pairs(words)),
+        names: Names::<S>::new(root, most_pairs(words)),
         points: Vec::new(),
         module: NONE,
         refusal: (0, 0),

@@ -1,7 +1,7 @@
 //! The names of all modules of a card, with their bases.
 use compare::Operation;
 use std::collections::hash_map::{Entry, HashMap};
-use std::hash::{BuildHasherDefault, Hasher};
+use std::hash::{BuildHasher, BuildHasherDefault, Hasher};
 use std::iter;
 use std::ops::Range;
 
@@ -14,10 +14,9 @@ type Base<'a> = Option<&'a [u8]>;
 /// The record of the path ::dafny_runtime.
 const DAFNY_RUNTIME: &[u8] = b"\x1b\0\0\0\x13\0\x02\0\0\0\x10\0\x0f\0\0\0\x01\0dafny_runtime";
 
-type Map<K> = HashMap<K, u32, BuildHasherDefault<Mix>>;
-
+/// `S` makes the hashes.
 #[derive(Default)]
-pub struct Names<'a> {
+pub struct Names<'a, S> {
     modules: Vec<Module>,
     /// How many pairs a module may have.
     most: usize,
@@ -25,11 +24,11 @@ pub struct Names<'a> {
     paths: Vec<u8>,
     names: Vec<Name<'a>>,
     /// A name's number by module and name.
-    numbers: Map<(u32, &'a [u8])>,
+    numbers: HashMap<(u32, &'a [u8]), u32, S>,
     /// The names of the pairs.
     pairs: Vec<u32>,
     /// A pair's number by name and base, of all but a name's first.
-    more: Map<(u32, Base<'a>)>,
+    more: HashMap<(u32, Base<'a>), u32, S>,
 }
 
 pub struct Module {
@@ -53,7 +52,7 @@ struct Name<'a> {
     next: u32,
 }
 
-impl<'a> Names<'a> {
+impl<'a, S: BuildHasher + Default> Names<'a, S> {
     pub fn new(root: &[u8], most: usize) -> Self {
         Names { paths: root.to_vec(), most, ..Names::default() }
     }
@@ -188,7 +187,9 @@ impl<'a> Name<'a> {
 
 /// A quick hash. A module has so few names that a card made against it does no harm.
 #[derive(Default)]
-struct Mix(u64);
+pub struct Mix(u64);
+
+pub type Quick = BuildHasherDefault<Mix>;
 
 impl Mix {
     fn mix(&mut self, word: u64) {

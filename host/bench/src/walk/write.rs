@@ -2,6 +2,7 @@
 use super::names::Names;
 use super::{end_of, path_at, Point, Sort};
 use compare::Mark;
+use std::hash::BuildHasher;
 use std::slice::ChunksExactMut;
 
 /// A Text.
@@ -24,9 +25,9 @@ pub fn use_length(name: &[u8], base: &[u8]) -> usize {
     6 + 6 + 7 + 6 + base.len() + text_length(name)
 }
 
-struct Writer<'w> {
+struct Writer<'w, S> {
     card: &'w [u8],
-    names: &'w Names<'w>,
+    names: &'w Names<'w, S>,
     /// What is yet to change, in the card's order.
     points: &'w [Point],
     out: &'w mut [u8],
@@ -37,7 +38,13 @@ struct Writer<'w> {
 
 /// The points, at least one if any, lie in the card; the output is as long as `out`, and `list` as long as
 /// its entries or empty.
-pub fn write(card: &[u8], names: &Names, points: &[Point], out: &mut [u8], list: &mut [u32]) {
+pub fn write<S: BuildHasher + Default>(
+    card: &[u8],
+    names: &Names<S>,
+    points: &[Point],
+    out: &mut [u8],
+    list: &mut [u32],
+) {
     if points.is_empty() {
         out.copy_from_slice(card);
         return;
@@ -45,7 +52,7 @@ pub fn write(card: &[u8], names: &Names, points: &[Point], out: &mut [u8], list:
     Writer { card, names, points, out, at: 0, entries: list.chunks_exact_mut(2) }.record(0);
 }
 
-impl Writer<'_> {
+impl<S: BuildHasher + Default> Writer<'_, S> {
     fn put(&mut self, bytes: &[u8]) {
         self.out[self.at..][..bytes.len()].copy_from_slice(bytes);
         self.at += bytes.len();

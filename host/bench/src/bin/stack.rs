@@ -1,4 +1,5 @@
 //! How many bytes of stack the console's calls take: the stack is painted, the call made, and the paint looked at.
+use compare::comparison::LONG;
 use compare::{cards, console, Operation, WORDS};
 use std::hint::black_box;
 use std::thread;
@@ -7,6 +8,10 @@ use yardstick::classes;
 /// How much is painted, and the paint.
 const PAINTED: usize = 256 << 10;
 const PAINT: u8 = 0xA7;
+
+/// Bytes of the out buffer, and words of a list that surely suffices for it: nothing is measured for this one.
+const OUT: usize = 1 << 20;
+const LONGER: usize = OUT / 3 + 2;
 
 /// A module in a module, as deep as may be.
 fn nested(times: usize) -> Vec<u8> {
@@ -22,7 +27,13 @@ fn deep(times: usize) -> Vec<u8> {
 
 /// The bytes below this frame that a call changed. Nothing is borrowed there: the area is free stack.
 #[inline(never)]
-fn used(operation: Operation, card: &[u8], out: &mut [u8], words: Option<&mut [u32]>) -> usize {
+fn used(
+    operation: Operation,
+    card: &[u8],
+    out: &mut [u8],
+    words: Option<&mut [u32]>,
+    list: Option<&mut [u32]>,
+) -> usize {
     let here = 0u8;
     let top = (&here as *const u8 as usize) - 4096;
     let area = top - PAINTED;
@@ -31,7 +42,11 @@ fn used(operation: Operation, card: &[u8], out: &mut [u8], words: Option<&mut [u
             std::ptr::write_volatile((area + i) as *mut u8, PAINT);
         }
     }
-    let answer = console::shorten(operation, black_box(card), &cards::CRATE, out, words);
+    let (card, root) = (black_box(card), &cards::CRATE);
+    let answer = match list {
+        None => console::shorten(operation, card, root, out, words),
+        Some(list) => console::shorten_places(operation, card, root, out, words, list, &mut 0),
+    };
     black_box(answer).expect("a card that is accepted");
     let kept = (0..PAINTED)
         .take_while(|i| unsafe { std::ptr::read_volatile((area + i) as *const u8) } == PAINT)
@@ -50,16 +65,28 @@ fn main() {
         ("512 pairs, 2,048 words lent", classes::pairs(512), Some(WORDS)),
         ("1,024 pairs, 4,096 words lent", classes::close_pairs(1024), Some(4096)),
     ];
+    // With a list of so many words, or without one.
+    let lists = [("without a list", None), ("with a list", Some(LONG)), ("with a longer one", Some(LONGER))];
+    print!("{:29}", "bytes of stack");
+    lists.iter().for_each(|(what, _)| print!("  {what:>18}"));
+    print!("\n{:29}", "card");
+    lists.iter().for_each(|_| print!("  {:>8}  {:>8}", "old", "straight"));
+    println!();
     for (what, card, words) in cards {
-        let [old, straight] = Operation::BOTH.map(|operation| {
-            let card = card.clone();
-            let run = move || {
-                let mut out = vec![0; 1 << 20];
-                let mut words = words.map(|count| vec![0; count]);
-                used(operation, &card, &mut out, words.as_deref_mut())
-            };
-            thread::Builder::new().stack_size(2 << 20).spawn(run).unwrap().join().unwrap()
-        });
-        println!("{what}: {old} bytes of stack, {straight} in straight shortening");
+        print!("{what:29}");
+        for (_, list) in lists {
+            for operation in Operation::BOTH {
+                let card = card.clone();
+                let run = move || {
+                    // All that is lent lies outside the stack.
+                    let lend = |count| vec![0; count];
+                    let (mut out, mut words, mut list) = (vec![0; OUT], words.map(lend), list.map(lend));
+                    used(operation, &card, &mut out, words.as_deref_mut(), list.as_deref_mut())
+                };
+                let used = thread::Builder::new().stack_size(2 << 20).spawn(run).unwrap().join().unwrap();
+                print!("  {used:8}");
+            }
+        }
+        println!();
     }
 }

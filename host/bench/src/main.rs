@@ -8,6 +8,7 @@ use compare::report::Report;
 use compare::text;
 use compare::ways::Way;
 use compare::{own, tree, Answer, Operation, MOST_CARD, WORDS};
+use std::borrow::Borrow;
 use std::hint::black_box;
 use std::process::ExitCode;
 use std::time::{Duration, Instant};
@@ -306,12 +307,16 @@ fn agree(what: &str, report: Report) -> bool {
     report.differ == 0
 }
 
+fn agree_on_all<C: Borrow<Case>>(what: &str, cases: impl IntoIterator<Item = C>) -> bool {
+    agree(what, compare_all(what, WAYS, cases))
+}
+
 /// The answers to the vectors, file by file: whether none differs.
 fn agree_on(files: &[Vectors]) -> bool {
     let mut same = true;
     for Vectors { name, changed, cases } in files {
         println!("{name}: {} lines, {changed} of them answered otherwise by a later file", cases.len());
-        same &= agree(name, compare_all(WAYS, cases));
+        same &= agree_on_all(name, cases);
     }
     same
 }
@@ -333,9 +338,9 @@ fn run(folder: Option<&str>, cards: usize, seed: u64) -> Result<bool, String> {
     let (mut classes, lent_classes) = (of_classes(), of_lent_classes());
     let own = own::cases().into_iter().chain(own::differing()).map(Case::of_own);
     let mut same = agree_on(&vectors);
-    same &= agree("own cards", compare_all(WAYS, own));
+    same &= agree_on_all("own cards", own);
     let all = classes.iter().chain(&lent_classes);
-    same &= agree("classes", compare_all(WAYS, all.flat_map(|class| &class.cases)));
+    same &= agree_on_all("classes", all.flat_map(|class| &class.cases));
     same &= agree_at_random(cards, seed);
     if !same {
         println!("nothing is measured");

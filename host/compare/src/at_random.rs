@@ -1,6 +1,7 @@
 //! The comparison on random cards, any number of them, on all cores.
 use crate::case::Case;
 use crate::comparison::Comparison;
+use crate::current;
 use crate::random::{self, Draws};
 use crate::report::Report;
 use crate::tree::{self, Whole};
@@ -33,7 +34,10 @@ pub fn compare(ways: &[Way], seed: u64, count: usize, mut progress: impl FnMut(&
                     }
                     let mut report = Report::default();
                     for number in first..count.min(first + BLOCK) {
-                        compare_card(&mut comparison, ways, seed, number, &mut report);
+                        let name = format_args!("card {} of seed {seed}", number + 1);
+                        current::named(name, || {
+                            compare_card(&mut comparison, ways, seed, number, &mut report)
+                        });
                     }
                     if sender.send(report).is_err() {
                         return;

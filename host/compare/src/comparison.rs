@@ -3,6 +3,7 @@
 //! By an operation a case is called with its work words and with the call's own, each without a list of places, with one that is
 //! long enough for every output and with one of the length that is stated or drawn.
 use crate::case::{Case, Given, Lending};
+use crate::current;
 use crate::lent::{first_difference, Lent};
 use crate::random::Draws;
 use crate::report::Report;
@@ -321,15 +322,17 @@ fn is_as_stated(case: &Case, operation: Operation, lending: Lending, due: Due) -
     Err(Difference { what, own_words: false, answer, fault, due: stated.answer, says: "stated is", line })
 }
 
-/// What comes of these cases by these ways.
-pub fn compare_all<C: Borrow<Case>>(ways: &[Way], cases: impl IntoIterator<Item = C>) -> Report {
+/// What comes of these cases by these ways. A case's name is `what` with its number behind it.
+pub fn compare_all<C: Borrow<Case>>(what: &str, ways: &[Way], cases: impl IntoIterator<Item = C>) -> Report {
     let mut comparison = Comparison::new();
     let mut report = Report::default();
     for (number, case) in cases.into_iter().enumerate() {
         let case = case.borrow();
         let mut draws = Draws::new(1, number);
         let each = case.operations();
-        report.add(number, each.map(|by| (by, comparison.compare(ways, case, by, &mut draws))));
+        current::named(format_args!("{what} {}", number + 1), || {
+            report.add(number, each.map(|by| (by, comparison.compare(ways, case, by, &mut draws))))
+        });
     }
     report
 }
@@ -748,9 +751,24 @@ mod tests {
     fn differences_are_counted() {
         let call: Call = |_, _, _, _, _| Err((4, 17));
         let cases = || [case(), Case { operation: Some(Operation::Straight), ..case() }, with_pairs(1, 0)];
-        let report = compare_all(&[Way { call, ..TREE }], cases());
+        let report = compare_all("case", &[Way { call, ..TREE }], cases());
         assert_eq!((report.cases, report.differ, report.differences.len()), (3, 3, 5));
-        let report = compare_all(&[TREE], cases());
+        let report = compare_all("case", &[TREE], cases());
         assert_eq!((report.cases, report.differ, report.differences.len()), (3, 0, 0));
+    }
+
+    /// Where comparing panics, the case is known; behind it none is.
+    #[test]
+    fn a_panic_has_a_name() {
+        let call: Call = |operation, card, root, out, words| match out.len() {
+            20 => panic!("too few bytes"),
+            _ => (TREE.call)(operation, card, root, out, words),
+        };
+        let cases = || [case(), Case { out: 20, ..case() }];
+        compare_all("case", &[TREE], cases());
+        assert_eq!(current::name(), None);
+        let compare = || compare_all("case", &[Way { call, ..TREE }], cases());
+        std::panic::catch_unwind(compare).map(|_| ()).unwrap_err();
+        assert_eq!(current::name().as_deref(), Some("case 2"));
     }
 }

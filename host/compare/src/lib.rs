@@ -9,6 +9,7 @@ pub mod case;
 pub mod comparison;
 #[cfg(feature = "console")]
 pub mod console;
+pub mod current;
 mod lent;
 pub mod own;
 pub mod points;

@@ -2,14 +2,16 @@
 use compare::at_random;
 use compare::case::{within_limits, Case};
 use compare::comparison::compare_all;
+use compare::current;
 use compare::report::Report;
 use compare::text;
 use compare::ways::{Way, CONSOLE};
 use std::ffi::{OsStr, OsString};
 use std::fmt::Display;
 use std::fs;
-use std::io::{self, IsTerminal, Write};
-use std::process::ExitCode;
+use std::io::{self, IsTerminal, StderrLock, Write};
+use std::panic;
+use std::process::{self, ExitCode};
 use std::time::{Duration, Instant};
 
 const USAGE: &str = "\
@@ -20,7 +22,8 @@ compare FILE                    the cases in a file, one to a line: a card that 
                                 as such a line
 --keep FILE                     writes the first cases that differ, those that are printed, into
                                 a file
-The exit status is 0 where nothing differs, 1 where something does, 2 for a wrong argument.";
+The exit status is 0 where nothing differs, 1 where something does, 2 for a wrong argument, 3 where
+the comparison itself panics at a card.";
 
 const WAYS: &[Way] = &[CONSOLE];
 const COUNT: usize = 100_000;
@@ -131,12 +134,30 @@ impl Progress {
         };
     }
 
-    /// Takes the line away.
     fn end(self) {
-        if self.renews {
-            let _ = write!(io::stderr(), "\r{:70}\r", "");
-        }
+        without_progress(&mut io::stderr().lock());
     }
+}
+
+/// Takes the line away that is renewed.
+fn without_progress(errors: &mut StderrLock) {
+    if errors.is_terminal() {
+        let _ = write!(errors, "\r{:70}\r", "");
+    }
+}
+
+/// Where comparing a card panics, one line says which card it is, and the program ends.
+fn name_on_panic() {
+    let usual = panic::take_hook();
+    panic::set_hook(Box::new(move |panicked| {
+        let Some(name) = current::name() else { return usual(panicked) };
+        let line = format!("{name}: the comparison {panicked}").replace('\n', " ");
+        // Locked to the end, so that no other thread has a line behind this one.
+        let mut errors = io::stderr().lock();
+        without_progress(&mut errors);
+        let _ = writeln!(errors, "compare: {}", on_one_line(&line));
+        process::exit(3)
+    }));
 }
 
 fn compare_random(count: usize, seed: u64) -> Report {
@@ -165,7 +186,7 @@ fn compare_random(count: usize, seed: u64) -> Report {
 /// What comes of the cases of a file.
 fn compare_file(name: &str, cases: Vec<Case>) -> Result<Report, String> {
     within_limits(name, &cases)?;
-    let report = compare_all(WAYS, cases);
+    let report = compare_all(name, WAYS, cases);
     report.lines(name, WAYS).iter().for_each(say);
     Ok(report)
 }
@@ -241,6 +262,7 @@ fn main() -> ExitCode {
         say(USAGE);
         return ExitCode::SUCCESS;
     }
+    name_on_panic();
     match asked.and_then(|asked| run(&asked)) {
         Ok(true) => ExitCode::SUCCESS,
         Ok(false) => ExitCode::FAILURE,

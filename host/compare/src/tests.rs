@@ -38,7 +38,7 @@ fn stated_cards() {
     for operation in Operation::BOTH {
         let cases = stated::all(operation).into_iter().map(|case| Case::of_stated(operation, case));
         let cases: Vec<Case> = cases.collect();
-        none_differs(&compare_all(WAYS, &cases));
+        none_differs(&compare_all("case", WAYS, &cases));
         for case in &cases {
             let _ = whole(operation, &case.card, &case.root, case.words);
         }
@@ -47,7 +47,8 @@ fn stated_cards() {
 
 #[test]
 fn own_cards() {
-    none_differs(&compare_all(WAYS, own::cases().into_iter().chain(own::differing()).map(Case::of_own)));
+    let cases = own::cases().into_iter().chain(own::differing()).map(Case::of_own);
+    none_differs(&compare_all("case", WAYS, cases));
     for case in own::cases() {
         for operation in Operation::BOTH {
             let _ = whole(operation, &case.card, &case.root, case.words);

@@ -6,6 +6,9 @@ use crate::view::{count, mark};
 
 const STYLE: &str = include_str!("page.css");
 
+/// What is said of a line that is too wide for the browser.
+const DOTS: &str = "A row with dots before it goes on from the one above.";
+
 pub fn pair(file: &str, pair: &Pair, bytes: usize) -> String {
     let mut rows = String::new();
     for row in &pair.rows {
@@ -29,7 +32,7 @@ pub fn pair(file: &str, pair: &Pair, bytes: usize) -> String {
     );
     let legend = "<span class=\"long\">::a::X</span> is shortened to <span class=\"short\">X</span>, \
         which shows its full path when pointed at or reached by the Tab key; <span class=\"use\">pub use ::a::X;</span> was put in.";
-    page(file, &format!("<p>{summary}. {legend}</p>\n<main>\n{heads}{rows}</main>\n"))
+    page(file, &format!("<p>{summary}. {legend} {DOTS}</p>\n<main>\n{heads}{rows}</main>\n"))
 }
 
 pub fn refused(file: &str, refused: &Refused) -> String {
@@ -49,10 +52,8 @@ pub fn refused(file: &str, refused: &Refused) -> String {
         });
     }
     let why = escaped(&refused.refusal.to_string());
-    page(
-        file,
-        &format!("<p class=\"why\" role=\"alert\">{why}</p>\n<main class=\"alone\">\n{lines}</main>\n"),
-    )
+    let why = format!("<p class=\"why\" role=\"alert\">{why}</p>\n<p>{DOTS}</p>\n");
+    page(file, &format!("{why}<main class=\"alone\">\n{lines}</main>\n"))
 }
 
 fn page(file: &str, body: &str) -> String {

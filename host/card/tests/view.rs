@@ -52,6 +52,12 @@ fn a_text_makes_no_line() {
     let lines: Vec<&str> = out.lines().filter(|row| row.as_bytes().get(39) == Some(&b'|')).collect();
     assert_eq!(lines.len(), 1 + shown(&["show", "-"], &text).lines().count(), "{out}");
     assert!(out.contains("off(7)") && lines.iter().all(|row| !row.contains("off(7)")), "{out}");
+    // On the page it is all in one line, whose rows but the first have dots.
+    let page = shown(&["html", "-"], &text);
+    let has_doc = |row: &&str| seen(row).matches(&doc).count() == 2;
+    let row = page.lines().find(has_doc).expect("before and after in one row");
+    assert_eq!(row.matches("class=\"line\"").count(), 2);
+    assert!(page.contains("\n.line::before {"), "{page}");
 }
 
 /// A synonym of the card's own is one on both sides, with the names that are shortened in it.

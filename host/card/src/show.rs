@@ -59,18 +59,6 @@ pub struct Shown {
 
 pub const INDENT: usize = 4;
 
-/// The text that `make` takes.
-pub fn text(tree: &Node) -> String {
-    let shown = show(tree, &Look::default());
-    let mut out = String::new();
-    for line in &shown.lines {
-        out.extend(std::iter::repeat_n(' ', INDENT * line.indent));
-        out.extend(line.spans.iter().map(|span| span.text.as_str()));
-        out.push('\n');
-    }
-    out
-}
-
 /// How a tree is shown.
 #[derive(Default)]
 pub struct Look {

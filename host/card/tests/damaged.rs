@@ -2,8 +2,8 @@
 
 mod common;
 
-use card::{make, records, show};
-use common::{damaged, damaged_card, run, sound_card, through_every_command, Draws};
+use card::{make, records};
+use common::{damaged, damaged_card, run, sound_card, text_of, through_every_command, Draws};
 use std::time::Instant;
 use vegashol::{Reason, Refusal};
 
@@ -95,7 +95,7 @@ fn shown_is_what_make_takes() {
     let mut draws = Draws::new(6);
     for _ in 0..500 {
         let card = sound_card(&mut draws);
-        let text = show::text(&records::read(&card).tree.expect("a sound card has a tree"));
+        let text = text_of(&card);
         let shown = run(&["show", "-"], &card).out;
         assert!(shown == text.as_bytes());
         assert!(run(&["make", "-"], &shown).out == card);
@@ -109,9 +109,8 @@ fn shown_is_what_make_takes() {
 }
 
 fn damaged_text(draws: &mut Draws) -> Vec<u8> {
-    let card = sound_card(draws);
-    let tree = records::read(&card).tree.expect("a sound card has a tree");
-    damaged(draws, show::text(&tree).as_bytes())
+    let text = text_of(&sound_card(draws));
+    damaged(draws, text.as_bytes())
 }
 
 #[test]

@@ -2,8 +2,8 @@
 
 mod common;
 
-use card::{make, records, show};
-use common::{is_printable, run};
+use card::make;
+use common::{is_printable, run, text_of};
 
 const ODD: &[&[u8]] = &[
     b"\x1b[2J",
@@ -56,8 +56,7 @@ fn odd_names_in_every_command() {
 fn odd_names_come_back() {
     for odd in ODD {
         let card = card_with(odd);
-        let text = show::text(&records::read(&card).tree.expect("a sound card has a tree"));
-        assert!(make::make(text.as_bytes()).expect("the text of a sound card") == card);
+        assert!(make::make(text_of(&card).as_bytes()).expect("the text of a sound card") == card);
     }
 }
 

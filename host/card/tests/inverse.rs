@@ -2,17 +2,16 @@
 
 mod common;
 
-use card::{kinds, make, records, show};
-use common::{least, sound_card, Draws, Trees};
+use card::{kinds, make, records};
+use common::{least, sound_card, text_of, Draws, Trees};
 use std::collections::HashSet;
 
 fn there_and_back(card: &[u8]) {
-    let reading = records::read(card);
-    assert_eq!(reading.refusal, None);
-    let text = show::text(&reading.tree.expect("a sound card has a tree"));
+    assert_eq!(records::read(card).refusal, None);
+    let text = text_of(card);
     let made = make::make(text.as_bytes()).unwrap_or_else(|fault| panic!("{fault:?} in\n{text}"));
     assert!(made == card, "another card is made of\n{text}");
-    assert_eq!(show::text(&records::read(&made).tree.expect("a tree")), text);
+    assert_eq!(text_of(&made), text);
 }
 
 #[test]
@@ -79,7 +78,7 @@ fn around<'a>(trees: &mut Trees, node: records::Node<'a>) -> Option<records::Nod
 fn the_example() {
     let text = include_str!("../examples/finale.txt");
     let card = make::make(text.as_bytes()).expect("the example's text");
-    assert_eq!(show::text(&records::read(&card).tree.expect("a tree")), text);
+    assert_eq!(text_of(&card), text);
 }
 
 /// What Rust would write otherwise, and what needs its quotes or parentheses.
@@ -109,7 +108,7 @@ fn spelled_so() {
     ] {
         let text = format!("{line}\n");
         let card = make::make(text.as_bytes()).unwrap_or_else(|fault| panic!("{fault:?} in {text}"));
-        assert_eq!(show::text(&records::read(&card).tree.expect("a tree")), text);
+        assert_eq!(text_of(&card), text);
     }
 }
 
@@ -180,5 +179,5 @@ fn the_readme() {
         notation.lines().skip_while(|line| !line.starts_with("    ")).take_while(|line| !line.is_empty());
     let text: String = block.map(|line| format!("{}\n", &line[4..])).collect();
     let card = make::make(text.as_bytes()).expect("README's text");
-    assert_eq!(show::text(&records::read(&card).tree.expect("a tree")), text);
+    assert_eq!(text_of(&card), text);
 }

@@ -3,6 +3,7 @@
 
 use card::kinds::{self, rule, Class, Keeping, Shape, Spelling, What, KINDS};
 use card::records::{self, Node, MOST_DEPTH};
+use card::show::{self, Look, INDENT};
 
 pub struct Draws(u64);
 
@@ -298,6 +299,13 @@ pub fn is_printable(out: &[u8], color: bool) {
     }
     let odd = text.bytes().find(|byte| !matches!(byte, b' '..=b'~' | b'\n'));
     assert_eq!(odd, None, "{text}");
+}
+
+/// The text of a sound card, which `make` takes.
+pub fn text_of(card: &[u8]) -> String {
+    let tree = records::read(card).tree.expect("a sound card has a tree");
+    let lines = show::show(&tree, &Look::default()).lines;
+    lines.iter().map(|line| format!("{}{}\n", " ".repeat(INDENT * line.indent), line.text())).collect()
 }
 
 /// A file of any sort through every command.

@@ -478,25 +478,22 @@ impl<'t> Parser<'t> {
 
     /// The fields that may stand ahead of a declaration's word, for whichever kind has them.
     fn leading(&mut self) -> Result<(), Wrong> {
-        const LEADS: [(&str, What); 4] = [
-            ("doc", What::Text(Spelling::Doc)),
-            ("attr", What::Kept(Keeping::Attributes)),
-            ("pub", What::Kept(Keeping::Visibility)),
-            ("vis", What::Kept(Keeping::Visibility)),
-        ];
-        for (word, what) in LEADS {
+        const DOC: &str = "doc";
+        const KEPT: [(&str, Keeping); 3] =
+            [("attr", Keeping::Attributes), ("pub", Keeping::Visibility), ("vis", Keeping::Visibility)];
+        if self.sees(DOC) {
+            let (at, node) = (self.at, self.text(Spelling::Doc)?);
+            self.leads.push(Lead { at, word: DOC, what: What::Text(Spelling::Doc), node });
+        }
+        for (word, keeping) in KEPT {
             if self.sees(word) {
-                let at = self.at;
-                let node = match what {
-                    What::Text(spelling) => self.text(spelling)?,
-                    What::Kept(keeping) => self.kept(keeping)?,
-                    What::Of(class) => self.of(class)?,
-                };
-                self.leads.push(Lead { at, word, what, node });
+                let (at, node) = (self.at, self.kept(keeping)?);
+                self.leads.push(Lead { at, word, what: What::Kept(keeping), node });
             }
         }
-        match LEADS.iter().find(|(word, _)| self.sees(word)) {
-            Some((word, _)) => {
+        let mut words = [DOC].into_iter().chain(KEPT.map(|(word, _)| word));
+        match words.find(|word| self.sees(word)) {
+            Some(word) => {
                 self.wrong(format!("`{word}` may not stand here: first comes `doc`, then `attr`, then `pub`"))
             }
             None => Ok(()),

@@ -123,6 +123,18 @@ fn wrong_lines() {
         ("mod m {\n  blob X;\n}", 2, 3, "a declaration is due here, and not `blob`"),
         ("mod m {\n  pub struct S {}\n}", 2, 3, "`pub` may not stand ahead of `struct`"),
         (
+            "mod m {\n  pub doc \"a\" fn f()\n}",
+            2,
+            7,
+            "`doc` may not stand here: first comes `doc`, then `attr`, then `pub`",
+        ),
+        (
+            "mod m {\n  vis #02 attr #01 fn f()\n}",
+            2,
+            11,
+            "`attr` may not stand here: first comes `doc`, then `attr`, then `pub`",
+        ),
+        (
             "mod m {\n  impl A {\n    const k: u8 = 1;",
             3,
             5,

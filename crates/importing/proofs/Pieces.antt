@@ -10,8 +10,10 @@ use Rattle.records.proofs.Tree.{record-length}
 use Rattle.prefix.specs.Prefix.{selection}
 use Rattle.pairs.specs.Stored.{stored}
 use Rattle.pairs.specs.Choice.{useBytes}
-use Rattle.laying.specs.Lays.{lay, headBytes, Laid}
-use Rattle.laying.proofs.Laws.{lay-behind, lay-record}
+use Rattle.laying.specs.Lays.{lay, Laid}
+use Rattle.laying.proofs.Laws.{lay-behind}
+use Rattle.heads.specs.Heads.{headBytes}
+use Rattle.heads.proofs.Laws.{lay-record}
 
 -- what is laid at a place that is said in another way
 at-place : (o after : Bytes) (p q : ℕ) (b : Bytes) → p ≡ q → after ≡ lay o p b → after ≡ lay o q b

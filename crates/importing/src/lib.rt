@@ -17,9 +17,9 @@ fn write_selection(name: &[u8], base: &[u8], out: &mut [u8], at: usize) -> usize
     ensures { λ e. ⌜ Laid (now (out .entry)) at (selection (now (base .entry)) (recordBytes 0x01 (now (name .entry)))) e (now (out .exit)) ⌝ }
 {
     let p = at + 6 + base.len();
-    laying::lay_head(base.len() + name.len() + 8, 0x13, out, at);
+    heads::lay_head(base.len() + name.len() + 8, 0x13, out, at);
     laying::lay(base, out, at + 6);
-    laying::lay_head(name.len() + 2, 1, out, p);
+    heads::lay_head(name.len() + 2, 1, out, p);
     laying::lay(name, out, p + 6);
     p + 6 + name.len()
 }
@@ -31,9 +31,9 @@ fn write_use(name: &[u8], base: &[u8], out: &mut [u8], at: usize) -> usize
 {
     let n = base.len() + name.len();
     let public: [u8; 1] = [1];
-    laying::lay_head(n + 27, 0x6A, out, at);
-    laying::lay_head(n + 21, 0x80, out, at + 6);
-    laying::lay_head(3, 3, out, at + 12);
+    heads::lay_head(n + 27, 0x6A, out, at);
+    heads::lay_head(n + 21, 0x80, out, at + 6);
+    heads::lay_head(3, 3, out, at + 12);
     laying::lay(&public, out, at + 18);
     write_selection(name, base, out, at + 19)
 }

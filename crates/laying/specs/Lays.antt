@@ -1,9 +1,9 @@
 -- Bytes laid over a buffer. Assumes nothing: these are definitions.
 use mathlib.Core.Path.{_≡_}
-use mathlib.Core.List.{[], _∷_, _++_}
+use mathlib.Core.List.{[], _∷_}
 use Prim.Native.Nat.{ℕ, zero, suc, _+_}
 use lib.ListN.{length}
-use Rattle.wire.specs.Numbers.{Bytes, le}
+use Rattle.wire.specs.Numbers.{Bytes}
 
 -- b over out from a place on, as far as out reaches
 unfoldable pub lay : Bytes → ℕ → Bytes → Bytes
@@ -16,7 +16,3 @@ lay (x ∷ out) (suc at) b = x ∷ lay out at b
 pub record Laid (out : Bytes) (at : ℕ) (b : Bytes) (end : ℕ) (after : Bytes) : Type 0 where
   pub ends : end ≡ at + length b
   pub bytes : after ≡ lay out at b
-
--- a record's head: the length that counts the bytes after itself, and the kind
-abbrev pub headBytes : ℕ → ℕ → Bytes
-headBytes n k = le 4 n ++ le 2 k

@@ -15,8 +15,10 @@ use Rattle.factor_paths.specs.Walk.{Step, aType, anExpr, aFn, left, holds, step
 use Rattle.operation.specs.Operations.{operationOf}
 use Rattle.prefix.specs.Prefix.{Scope}
 use Rattle.steps.specs.Steps.{isLeft}
-use Rattle.laying.specs.Lays.{lay, Laid, headBytes}
-use Rattle.laying.proofs.Laws.{laid-none, laid-then, laid-record}
+use Rattle.laying.specs.Lays.{lay, Laid}
+use Rattle.laying.proofs.Laws.{laid-none, laid-then}
+use Rattle.heads.specs.Heads.{headBytes}
+use Rattle.heads.proofs.Laws.{laid-record}
 use Rattle.rewriting.specs.Shorts.{unfit, typeBytes, exprBytes, typeLaid, exprLaid}
 use Rattle.rewriting.specs.Rewrites.{partsOf, each, counted, uncounted, rewrite, parts, kept, function, declaration}
 use Rattle.rewriting.proofs.Bound.{declaration-small}

@@ -87,7 +87,7 @@ fn replace_kept(
         out,
         at + 6,
     );
-    laying::lay_head(e - at - 4, reader::record_kind(r), out, at);
+    heads::lay_head(e - at - 4, reader::record_kind(r), out, at);
     e
 }
 
@@ -214,7 +214,7 @@ fn replace_fn(
         out,
         p,
     );
-    laying::lay_head(e - at - 4, 0x7D, out, at);
+    heads::lay_head(e - at - 4, 0x7D, out, at);
     e
 }
 

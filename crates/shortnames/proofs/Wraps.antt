@@ -11,8 +11,10 @@ use borrow.Author.Tests.{lt-ltb, le-ltb}
 use Rattle.wire.specs.Numbers.{Bytes, le}
 use Rattle.records.specs.Record.{recordBytes}
 use Rattle.records.proofs.Tree.{record-length}
-use Rattle.laying.specs.Lays.{lay, Laid, headBytes}
-use Rattle.laying.proofs.Laws.{lay-length, lay-behind, lay-record, laid-none, laid-then}
+use Rattle.laying.specs.Lays.{lay, Laid}
+use Rattle.laying.proofs.Laws.{lay-length, lay-behind, laid-none, laid-then}
+use Rattle.heads.specs.Heads.{headBytes}
+use Rattle.heads.proofs.Laws.{lay-record}
 use Rattle.rewriting.specs.Shorts.{synonymBytes, unfit}
 use Rattle.rewriting.proofs.Lengths.{synonyms-length}
 

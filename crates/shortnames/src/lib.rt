@@ -14,8 +14,8 @@ fn lay_named(name: &[u8], k: usize, out: &mut [u8], at: usize)
     ensures { λ _. ⌜ now (out .exit) ≡ lay (now (out .entry)) at (recordBytes k (recordBytes 0x01 (now (name .entry)))) ⌝ }
 {
     let n = name.len();
-    laying::lay_head(n + 8, k, out, at);
-    laying::lay_head(n + 2, 1, out, at + 6);
+    heads::lay_head(n + 8, k, out, at);
+    heads::lay_head(n + 2, 1, out, at + 6);
     laying::lay(name, out, at + 12);
 }
 
@@ -29,7 +29,7 @@ fn lay_synonyms(name: &[u8], r: &[u8], w: usize, out: &mut [u8], at: usize) -> u
     let mut p = at;
     let mut j = w;
     while 0 < j {
-        laying::lay_head(left - 4, 0x37, out, p);
+        heads::lay_head(left - 4, 0x37, out, p);
         lay_named(name, 0x2C, out, p + 6);
         p += unit;
         left -= unit;

@@ -23,8 +23,10 @@ use Rattle.tables.specs.Tables.{tableOf, hasRoom, isSmall, lastWords}
 use Rattle.tables.proofs.Beside.{own-taken}
 use Rattle.work.specs.Copies.{over}
 use Rattle.work.proofs.Copied.{over-whole, over-first}
-use Rattle.laying.specs.Lays.{lay, Laid, headBytes}
-use Rattle.laying.proofs.Laws.{lay-part, lay-behind, laid-record}
+use Rattle.laying.specs.Lays.{lay, Laid}
+use Rattle.laying.proofs.Laws.{lay-part, lay-behind}
+use Rattle.heads.specs.Heads.{headBytes}
+use Rattle.heads.proofs.Laws.{laid-record}
 use Rattle.rewriting.specs.Imports.{importsBytes}
 use Rattle.rewriting.specs.Rewrites.{declaration}
 use Rattle.rewriting.proofs.Lengths.{rest-inside}

@@ -149,7 +149,7 @@ fn write_mod(
         pairs,
     );
     let n = f + b.length;
-    laying::lay_head(n + 2, 0x60, out, 0);
+    heads::lay_head(n + 2, 0x60, out, 0);
     Piece {
         length: n + 6,
         full: b.full,
@@ -194,7 +194,7 @@ fn write_body(
         pairs,
     );
     let n = u + d.length;
-    laying::lay_head(n + 2, 2, out, 0);
+    heads::lay_head(n + 2, 2, out, 0);
     Piece {
         length: n + 6,
         full: d.full,
@@ -305,7 +305,7 @@ fn write_saved(
         0,
     );
     work::copy(&aside[..n], &mut work[k..]);
-    laying::lay_head(m.length + 2, 0x62, out, 0);
+    heads::lay_head(m.length + 2, 0x62, out, 0);
     Piece {
         length: m.length + 6,
         full: m.full,
@@ -357,7 +357,7 @@ fn write_inner(
             65537,
             0,
         );
-        laying::lay_head(b.length + 2, 0x62, out, 0);
+        heads::lay_head(b.length + 2, 0x62, out, 0);
         return Piece {
             length: b.length + 6,
             full: b.full,
@@ -378,7 +378,7 @@ fn write_inner(
         owner,
         pairs,
     );
-    laying::lay_head(m.length + 2, 0x62, out, 0);
+    heads::lay_head(m.length + 2, 0x62, out, 0);
     Piece {
         length: m.length + 6,
         full: m.full,

@@ -5,8 +5,8 @@ use Rattle.importing.proofs.write_selection.Statement.{statement}
 use Rattle.importing.proofs.write_selection.Tie as tie
 use Rattle.importing.proofs.write_selection.Reads as reads
 use Rattle.importing.proofs.write_selection.Lts as lts
+use Rattle.heads.proofs.lay_head.Reads as lay-head-reads
 use Rattle.laying.proofs.lay.Reads as lay-reads
-use Rattle.laying.proofs.lay_head.Reads as lay-head-reads
 
 add-p : tie.Need-add-p
 add-p c = search needs

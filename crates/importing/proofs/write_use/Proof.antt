@@ -6,8 +6,8 @@ use Rattle.importing.proofs.write_use.Tie as tie
 use Rattle.importing.proofs.write_use.Reads as reads
 use Rattle.importing.proofs.write_use.Lts as lts
 use Rattle.importing.proofs.write_selection.Reads as write-selection-reads
+use Rattle.heads.proofs.lay_head.Reads as lay-head-reads
 use Rattle.laying.proofs.lay.Reads as lay-reads
-use Rattle.laying.proofs.lay_head.Reads as lay-head-reads
 
 add-n : tie.Need-add-n
 add-n c = search needs

@@ -35,8 +35,8 @@ use Rattle.replacing.proofs.+replace_expr+replace_fn+replace_kept+repla
 use Rattle.replacing.proofs.replace_type.Reads as replace-type
 use Rattle.replacing.proofs.replace_type.Kinds as replace-type-kinds
 use Rattle.replacing.proofs.+replace_expr+replace_fn+replace_kept+replace_parts+replace_record+replace_type.Lts-replace_type as replace-type-lts
+use Rattle.heads.proofs.lay_head.Reads as lay-head-reads
 use Rattle.laying.proofs.lay.Reads as lay-reads
-use Rattle.laying.proofs.lay_head.Reads as lay-head-reads
 use Rattle.operation.proofs.walks_again.Reads as walks-again-reads
 use Rattle.reader.proofs.content.Reads as content-reads
 use Rattle.reader.proofs.is_short.Reads as is-short-reads

@@ -5,8 +5,8 @@ use Rattle.shortnames.proofs.lay_named.Statement.{statement}
 use Rattle.shortnames.proofs.lay_named.Tie as tie
 use Rattle.shortnames.proofs.lay_named.Reads as reads
 use Rattle.shortnames.proofs.lay_named.Lts as lts
+use Rattle.heads.proofs.lay_head.Reads as lay-head-reads
 use Rattle.laying.proofs.lay.Reads as lay-reads
-use Rattle.laying.proofs.lay_head.Reads as lay-head-reads
 
 add-lay-head : tie.Need-add-lay-head
 add-lay-head c = search needs

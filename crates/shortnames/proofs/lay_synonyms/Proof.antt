@@ -11,8 +11,8 @@ use Rattle.shortnames.proofs.lay_synonyms.Statement.{statement}
 use Rattle.shortnames.proofs.lay_synonyms.Tie as tie
 use Rattle.shortnames.proofs.lay_synonyms.Reads as reads
 use Rattle.shortnames.proofs.lay_synonyms.Lts as lts
+use Rattle.heads.proofs.lay_head.Reads as lay-head-reads
 use Rattle.laying.proofs.lay.Reads as lay-reads
-use Rattle.laying.proofs.lay_head.Reads as lay-head-reads
 use Rattle.shortnames.proofs.lay_named.Reads as lay-named-reads
 
 abbrev Inv-loop : tie.InvT-loop

@@ -40,9 +40,9 @@ use Rattle.writing.proofs.write_saved.Kinds as write-saved-kinds
 use Rattle.writing.proofs.+write_body+write_declaration+write_declarations+write_inner+write_mod+write_module+write_saved.Lts-write_saved as write-saved-lts
 use Rattle.chains.proofs.room.Reads as room-reads
 use Rattle.fields.proofs.name_place.Reads as name-place-reads
+use Rattle.heads.proofs.lay_head.Reads as lay-head-reads
 use Rattle.importing.proofs.write_imports.Reads as write-imports-reads
 use Rattle.laying.proofs.lay.Reads as lay-reads
-use Rattle.laying.proofs.lay_head.Reads as lay-head-reads
 use Rattle.laying.proofs.least.Reads as least-reads
 use Rattle.reader.proofs.content.Reads as content-reads
 use Rattle.reader.proofs.is_short.Reads as is-short-reads

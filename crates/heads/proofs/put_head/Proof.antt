@@ -1,14 +1,14 @@
--- `laying::put_head` meets its contract: six stores, one after the other. Assumes nothing.
+-- `heads::put_head` meets its contract: six stores, one after the other. Assumes nothing.
 use native.Mathlib.Omega.{arith}
 use native.Mathlib.Numerals.{towards-suc}
 use lib.ListN.{length-set}
 use Rattle.wire.specs.Numbers.{le}
 use Rattle.laying.proofs.Laws.{lay-sets}
 use borrow.Author.Needs.{needs}
-use Rattle.laying.proofs.put_head.Statement.{statement}
-use Rattle.laying.proofs.put_head.Tie as tie
-use Rattle.laying.proofs.put_head.Reads as reads
-use Rattle.laying.proofs.put_head.Lts as lts
+use Rattle.heads.proofs.put_head.Statement.{statement}
+use Rattle.heads.proofs.put_head.Tie as tie
+use Rattle.heads.proofs.put_head.Reads as reads
+use Rattle.heads.proofs.put_head.Lts as lts
 
 cast-out : tie.Need-cast-out
 cast-out c = search needs

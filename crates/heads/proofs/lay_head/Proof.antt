@@ -1,13 +1,13 @@
--- `laying::lay_head` meets its contract. Assumes nothing.
+-- `heads::lay_head` meets its contract. Assumes nothing.
 use mathlib.Core.Path.{refl}
-use Rattle.laying.proofs.Laws.{lay-six}
+use Rattle.heads.proofs.Laws.{lay-six}
 use borrow.Author.Needs.{needs}
-use Rattle.laying.proofs.lay_head.Statement.{statement}
-use Rattle.laying.proofs.lay_head.Tie as tie
-use Rattle.laying.proofs.lay_head.Reads as reads
-use Rattle.laying.proofs.lay_head.Lts as lts
+use Rattle.heads.proofs.lay_head.Statement.{statement}
+use Rattle.heads.proofs.lay_head.Tie as tie
+use Rattle.heads.proofs.lay_head.Reads as reads
+use Rattle.heads.proofs.lay_head.Lts as lts
 use Rattle.laying.proofs.lay.Reads as lay-reads
-use Rattle.laying.proofs.put_head.Reads as put-head-reads
+use Rattle.heads.proofs.put_head.Reads as put-head-reads
 
 sub-if2 : tie.Need-sub-if2
 sub-if2 c = search needs

@@ -10,7 +10,7 @@ ghost use Rattle.laying.specs.Lays.{Laid};
 ghost use Rattle.rewriting.specs.Rewrites.{rewrite, parts, kept, function, declaration};
 ghost use Rattle.replacing.specs.Room.{Room};
 
-// The records of a content.
+// The records of a content. One that holds nothing is left, whatever its kind: no call is made for it.
 fn replace_parts(
     op: Shortening,
     card: &[u8],
@@ -37,6 +37,12 @@ fn replace_parts(
             return p;
         }
         let n = 4 + reader::record_length(s);
+        if n == 6 {
+            heads::lay_head(2, reader::record_kind(s), out, p);
+            p += 6;
+            i += n;
+            continue;
+        }
         p = replace_record(
             op,
             card,

@@ -3,13 +3,14 @@ use mathlib.Core.Path.{_≡_, refl, sym, ap, _∙_}
 use Prim.Native.Nat.{ℕ, _+_, _*_, _-_, _<_}
 use native.Mathlib.Omega.{arith}
 use lib.Dec.{lit<}
-use lib.ListN.{length}
+use lib.ListN.{length, take}
 use borrow.Author.Needs.{needs}
 use Rattle.wire.proofs.Slices.{tail-part}
 use Rattle.records.specs.Record.{restOf}
 use Rattle.prefix.specs.Prefix.{scope}
 use Rattle.rewriting.specs.Rewrites.{rewrite}
 use Rattle.replacing.proofs.Along.{Along, along-none, along-long, along-stop, along-end, along-inside, along-room, along-small, along-next}
+use Rattle.replacing.proofs.Empty.{part-bytes, empty-laid}
 use Rattle.replacing.proofs.Ring.{step-type, step-expr, type-asks, type-gives, path-type-gives, expr-asks, expr-gives, path-expr-gives}
 use Rattle.replacing.proofs.Ring.{no-depth-gives, no-depth-fits, less-asks, less-gives, fn-asks}
 use Rattle.replacing.proofs.Ring.{fn-gives, left-gives, left-fits, holds-asks, holds-gives}
@@ -194,6 +195,10 @@ replace-parts-calls t = (
   is-short-reads.Learnt,
   record-length-reads.Asked,
   record-length-reads.Learnt,
+  record-kind-reads.Asked,
+  record-kind-reads.Learnt,
+  lay-head-reads.Asked,
+  lay-head-reads.Learnt,
   replace-record-below t,
   replace-record.Post,
 )
@@ -479,6 +484,84 @@ replace-parts-add-n t c =
     let record-length = c .record-length in
     omega (arith, record-length .ensures .1)
 
+replace-parts-record-kind-requires : (t : ℕ) → replace-parts-lts.Need-record-kind-requires (replace-parts-calls t) (replace-parts-at t) replace-parts.Post
+    replace-parts-Inv-loop replace-parts-μ-loop
+replace-parts-record-kind-requires t c κs = search needs
+
+replace-parts-lay-head-requires : (t : ℕ) → replace-parts-lts.Need-lay-head-requires (replace-parts-calls t) (replace-parts-at t) replace-parts.Post
+    replace-parts-Inv-loop replace-parts-μ-loop
+replace-parts-lay-head-requires t c κs = search needs
+
+replace-parts-add-p : (t : ℕ) → replace-parts-lts.Need-add-p (replace-parts-calls t) (replace-parts-at t) replace-parts.Post
+    replace-parts-Inv-loop replace-parts-μ-loop
+replace-parts-add-p t c =
+    let start = c .before .before .before .before .before .before .before .before .before .before .before .before .before .before .before .before .before .before in
+    let args = start .args in
+    let loop = c .before .before .before .before .before .before .before .before .before .before .before .loop in
+    let part = c .before .before .before .before .before .before .before .before .before .part in
+    let is-short = c .before .before .before .before .before .before .before .before .is-short in
+    let if1 = c .before .before .before .before .before .before .before .if1 in
+    let record-length = c .before .before .before .before .before .before .record-length in
+    let scoped = scope (args .op) (args .card .now) (args .root .now) (args .chain .now) in
+    let f = rewrite scoped (args .work .now) (args .left) (args .again) (args .w) in
+    let rest = tail-part (args .c .now) _ (loop .i) (part .ensures) in
+    let long = sym (is-short .ensures) ∙ if1 .left in
+    let size = ap (λ (x : ℕ). 4 + x) (record-length .ensures .0) in
+    let room = along-room f (args .c .now) (args .out .now) (args .at) _ (loop .i) (loop .p) (loop .inv .0) _ rest long _ size _ refl in
+    let small = along-small f (args .c .now) (args .out .now) (args .at) _ (loop .i) (loop .p) (loop .inv .0) _ rest long _ size _ refl in
+    let asked = parts-asks scoped (args .work .now) (args .again) (args .w) (args .c .now) (args .left) (args .at) (start .pre .1) _ _ room small in
+    omega (arith, asked .space)
+
+replace-parts-add-i : (t : ℕ) → replace-parts-lts.Need-add-i (replace-parts-calls t) (replace-parts-at t) replace-parts.Post
+    replace-parts-Inv-loop replace-parts-μ-loop
+replace-parts-add-i t c =
+    let start = c .before .before .before .before .before .before .before .before .before .before .before .before .before .before .before .before .before .before in
+    let args = start .args in
+    let loop = c .before .before .before .before .before .before .before .before .before .before .before .loop in
+    let part = c .before .before .before .before .before .before .before .before .before .part in
+    let is-short = c .before .before .before .before .before .before .before .before .is-short in
+    let if1 = c .before .before .before .before .before .before .before .if1 in
+    let record-length = c .before .before .before .before .before .before .record-length in
+    let f = rewrite (scope (args .op) (args .card .now) (args .root .now) (args .chain .now)) (args .work .now) (args .left) (args .again) (args .w) in
+    let rest = tail-part (args .c .now) _ (loop .i) (part .ensures) in
+    let long = sym (is-short .ensures) ∙ if1 .left in
+    let size = ap (λ (x : ℕ). 4 + x) (record-length .ensures .0) in
+    omega (
+      arith,
+      start .pre .1 .small,
+      along-inside f (args .c .now) (args .out .now) (args .at) _ (loop .i) (loop .p) (loop .inv .0) _ rest long _ size _ refl,
+    )
+
+replace-parts-loop-less : (t : ℕ) → replace-parts-lts.Need-loop-less (replace-parts-calls t) (replace-parts-at t) replace-parts.Post
+    replace-parts-Inv-loop replace-parts-μ-loop
+replace-parts-loop-less t c =
+    let loop-test = c .before .before .before .before .before .before .before .before .before .before .loop-test in
+    omega (arith, loop-test .taken)
+
+replace-parts-loop-again : (t : ℕ) → replace-parts-lts.Need-loop-again (replace-parts-calls t) (replace-parts-at t) replace-parts.Post
+    replace-parts-Inv-loop replace-parts-μ-loop
+replace-parts-loop-again t c =
+    let args = c .before .before .before .before .before .before .before .before .before .before .before .before .before .before .before .before .before .before .args in
+    let known = c .before .before .before .before .before .before .before .before .before .before .before .before .before .shared-slice-known5 in
+    let loop = c .before .before .before .before .before .before .before .before .before .before .before .loop in
+    let part = c .before .before .before .before .before .before .before .before .before .part in
+    let is-short = c .before .before .before .before .before .before .before .before .is-short in
+    let if1 = c .before .before .before .before .before .before .before .if1 in
+    let record-length = c .before .before .before .before .before .before .record-length in
+    let if2 = c .before .before .before .before .before .if2 in
+    let record-kind = c .before .before .before .before .record-kind in
+    let lay-head = c .before .before .lay-head in
+    let scoped = scope (args .op) (args .card .now) (args .root .now) (args .chain .now) in
+    let f = rewrite scoped (args .work .now) (args .left) (args .again) (args .w) in
+    let rest = tail-part (args .c .now) _ (loop .i) (part .ensures) in
+    let long = sym (is-short .ensures) ∙ if1 .left in
+    let size = ap (λ (x : ℕ). 4 + x) (record-length .ensures .0) in
+    let bytes = part-bytes (args .c .now) (loop .i) _ rest (λ j. known .given j .fits) in
+    let laid = empty-laid scoped (args .work .now) (args .w) (args .left) (args .again) _ bytes long _ size (if2 .taken) _ (record-kind .ensures .0)
+    _ (loop .p) _ (lay-head .ensures) in
+    let next = along-next f (args .c .now) (args .out .now) (args .at) _ (loop .i) (loop .p) (loop .inv .0) _ rest long _ size _ (ap (take (4 + record-length .result)) rest) _ _ laid in
+    (next, omega (arith, loop .inv .1, along-long f (args .c .now) (args .out .now) (args .at) _ _ _ next))
+
 replace-parts-part-requires-2 : (t : ℕ) → replace-parts-lts.Need-part-requires-2 (replace-parts-calls t) (replace-parts-at t) replace-parts.Post
     replace-parts-Inv-loop replace-parts-μ-loop
 replace-parts-part-requires-2 t c κs = search needs
@@ -486,13 +569,13 @@ replace-parts-part-requires-2 t c κs = search needs
 replace-parts-replace-record-requires : (t : ℕ) → replace-parts-lts.Need-replace-record-requires (replace-parts-calls t) (replace-parts-at t)
     replace-parts.Post replace-parts-Inv-loop replace-parts-μ-loop
 replace-parts-replace-record-requires t c κs =
-    let pre = c .before .before .before .before .before .before .before .before .before .before .before .before .before .before .pre in
-    let args = c .before .before .before .before .before .before .before .before .before .before .before .before .before .before .args in
-    let loop = c .before .before .before .before .before .before .before .loop in
-    let part = c .before .before .before .before .before .part in
-    let is-short = c .before .before .before .before .is-short in
-    let if1 = c .before .before .before .if1 in
-    let record-length = c .before .before .record-length in
+    let pre = c .before .before .before .before .before .before .before .before .before .before .before .before .before .before .before .pre in
+    let args = c .before .before .before .before .before .before .before .before .before .before .before .before .before .before .before .args in
+    let loop = c .before .before .before .before .before .before .before .before .loop in
+    let part = c .before .before .before .before .before .before .part in
+    let is-short = c .before .before .before .before .before .is-short in
+    let if1 = c .before .before .before .before .if1 in
+    let record-length = c .before .before .before .record-length in
     let part2 = c .before .part2 in (
       omega (arith, pre .0),
       parts-asks (scope (args .op) (args .card .now) (args .root .now) (args .chain .now)) (args .work .now) (args .again) (args .w)
@@ -505,17 +588,16 @@ replace-parts-replace-record-requires t c κs =
           (part2 .ensures)),
     )
 
-replace-parts-add-i : (t : ℕ) → replace-parts-lts.Need-add-i (replace-parts-calls t) (replace-parts-at t) replace-parts.Post replace-parts-Inv-loop
+replace-parts-add-i-2 : (t : ℕ) → replace-parts-lts.Need-add-i-2 (replace-parts-calls t) (replace-parts-at t) replace-parts.Post replace-parts-Inv-loop
     replace-parts-μ-loop
-replace-parts-add-i t c =
-    let pre = c .before .before .before .before .before .before .before .before .before .before .before .before .before .before .before .before .before .pre in
-    let args = c .before .before .before .before .before .before .before .before .before .before .before .before .before .before .before .before .before .args
-    in
-    let loop = c .before .before .before .before .before .before .before .before .before .before .loop in
-    let part = c .before .before .before .before .before .before .before .before .part in
-    let is-short = c .before .before .before .before .before .before .before .is-short in
-    let if1 = c .before .before .before .before .before .before .if1 in
-    let record-length = c .before .before .before .before .before .record-length in
+replace-parts-add-i-2 t c =
+    let pre = c .before .before .before .before .before .before .before .before .before .before .before .before .before .before .before .before .before .before .pre in
+    let args = c .before .before .before .before .before .before .before .before .before .before .before .before .before .before .before .before .before .before .args in
+    let loop = c .before .before .before .before .before .before .before .before .before .before .before .loop in
+    let part = c .before .before .before .before .before .before .before .before .before .part in
+    let is-short = c .before .before .before .before .before .before .before .before .is-short in
+    let if1 = c .before .before .before .before .before .before .before .if1 in
+    let record-length = c .before .before .before .before .before .before .record-length in
     let part2 = c .before .before .before .before .part2 in
     omega (
       arith,
@@ -526,22 +608,21 @@ replace-parts-add-i t c =
           (part2 .ensures),
     )
 
-replace-parts-loop-less : (t : ℕ) → replace-parts-lts.Need-loop-less (replace-parts-calls t) (replace-parts-at t) replace-parts.Post replace-parts-Inv-loop
+replace-parts-loop-less-2 : (t : ℕ) → replace-parts-lts.Need-loop-less-2 (replace-parts-calls t) (replace-parts-at t) replace-parts.Post replace-parts-Inv-loop
     replace-parts-μ-loop
-replace-parts-loop-less t c =
-    let loop-test = c .before .before .before .before .before .before .before .before .before .loop-test in
+replace-parts-loop-less-2 t c =
+    let loop-test = c .before .before .before .before .before .before .before .before .before .before .loop-test in
     omega (arith, loop-test .taken)
 
-replace-parts-loop-again : (t : ℕ) → replace-parts-lts.Need-loop-again (replace-parts-calls t) (replace-parts-at t) replace-parts.Post replace-parts-Inv-loop
+replace-parts-loop-again-2 : (t : ℕ) → replace-parts-lts.Need-loop-again-2 (replace-parts-calls t) (replace-parts-at t) replace-parts.Post replace-parts-Inv-loop
     replace-parts-μ-loop
-replace-parts-loop-again t c =
-    let args = c .before .before .before .before .before .before .before .before .before .before .before .before .before .before .before .before .before .args
-    in
-    let loop = c .before .before .before .before .before .before .before .before .before .before .loop in
-    let part = c .before .before .before .before .before .before .before .before .part in
-    let is-short = c .before .before .before .before .before .before .before .is-short in
-    let if1 = c .before .before .before .before .before .before .if1 in
-    let record-length = c .before .before .before .before .before .record-length in
+replace-parts-loop-again-2 t c =
+    let args = c .before .before .before .before .before .before .before .before .before .before .before .before .before .before .before .before .before .before .args in
+    let loop = c .before .before .before .before .before .before .before .before .before .before .before .loop in
+    let part = c .before .before .before .before .before .before .before .before .before .part in
+    let is-short = c .before .before .before .before .before .before .before .before .is-short in
+    let if1 = c .before .before .before .before .before .before .before .if1 in
+    let record-length = c .before .before .before .before .before .before .record-length in
     let part2 = c .before .before .before .before .part2 in
     let replace-record = c .before .before .replace-record in (
       along-next (rewrite (scope (args .op) (args .card .now) (args .root .now) (args .chain .now)) (args .work .now) (args .left) (args .again) (args .w))
@@ -950,6 +1031,10 @@ pub +replace-expr+replace-fn+replace-kept+replace-parts+replace-record+replace-t
       is-short-reads.Learnt,
       record-length-reads.Asked,
       record-length-reads.Learnt,
+      record-kind-reads.Asked,
+      record-kind-reads.Learnt,
+      lay-head-reads.Asked,
+      lay-head-reads.Learnt,
       replace-record-below t,
       replace-record.Post,
     )
@@ -964,11 +1049,17 @@ pub +replace-expr+replace-fn+replace-kept+replace-parts+replace-record+replace-t
     (replace-parts-returns t)
     (replace-parts-record-length-requires t)
     (replace-parts-add-n t)
-    (replace-parts-part-requires-2 t)
-    (replace-parts-replace-record-requires t)
+    (replace-parts-record-kind-requires t)
+    (replace-parts-lay-head-requires t)
+    (replace-parts-add-p t)
     (replace-parts-add-i t)
     (replace-parts-loop-less t)
     (replace-parts-loop-again t)
+    (replace-parts-part-requires-2 t)
+    (replace-parts-replace-record-requires t)
+    (replace-parts-add-i-2 t)
+    (replace-parts-loop-less-2 t)
+    (replace-parts-loop-again-2 t)
     (replace-parts-same-length-2 t)
     (replace-parts-returns-2 t))
     (λ t. replace-record-lts.spec (

@@ -10,10 +10,11 @@ use Rattle.wire.specs.Numbers.{Bytes}
 use Rattle.rast.proofs.Tests.{by-test}
 use Rattle.operation.specs.Operations.{operationOf}
 use Rattle.prefix.specs.Prefix.{Scope}
-use Rattle.comparing.proofs.Operations.{hash-name}
+use Rattle.comparing.specs.Compares.{numberOf}
+use Rattle.comparing.proofs.Operations.{number-name}
 use Rattle.chains.specs.declared.Want.{Want}
-use Rattle.chains.specs.Chains.{room, nameAt, numberAt, numberOf, bucketOf, headOf, nextOf, hasNamed, isWanted, seekFrom, seek}
-use Rattle.adding.proofs.Tests.{bucket-inside}
+use Rattle.chains.specs.Chains.{room, nameAt, numberAt, wordAt, bucketOf, headOf, nextOf, hasWanted, hasNamed, isWanted, seekFrom, seek}
+use Rattle.chains.proofs.Tests.{bucket-inside}
 use Rattle.adding.specs.Holds.{latest, bucketAt, isIn, Chained}
 
 -- the newest is one of them, or none
@@ -43,80 +44,79 @@ latest-none f (suc n) e i l =
     (λ t. by-test (eqb i n) (λ q. rw (eqb-true i n q) t)
     (λ q. latest-none f n (rw t at e) i (let d = eqb-false i n q in omega (arith, d))))
 
-module _ (s : Scope) (words : List ℕ) (n : ℕ) (c : Chained s words n) (f : ℕ → Bool) (b : ℕ) (inside : (i : ℕ) → f i ≡ true → bucketAt s words i ≡ b) where
+module _ (s : Scope) (words : List ℕ) (n : ℕ) (c : Chained s words n) (f : ℕ → Bool) (b : ℕ) (inside : (i : ℕ) → f i ≡ true → bucketAt words i ≡ b) where
   -- from the newest of the first m pairs that is in the bucket on
-  pub chain-latest : (m fuel : ℕ) → m ≤ n → latest (isIn s words b) m ≤ fuel → seekFrom f words fuel (latest (isIn s words b) m) ≡ latest f m
+  pub chain-latest : (m fuel : ℕ) → m ≤ n → latest (isIn words b) m ≤ fuel → seekFrom f words fuel (latest (isIn words b) m) ≡ latest f m
   unfolding latest seekFrom
   chain-latest zero zero h g = refl
   chain-latest zero (suc fuel) h g = refl
   chain-latest (suc m) fuel h g =
-      by-test (eqb (bucketAt s words m) b)
-      (λ t. rw t (in-bucket m fuel h (rw t at g) (eqb-true (bucketAt s words m) b t) (λ k. chain-latest m k (omega arith))))
+      by-test (eqb (bucketAt words m) b)
+      (λ t. rw t (in-bucket m fuel h (rw t at g) (eqb-true (bucketAt words m) b t) (λ k. chain-latest m k (omega arith))))
       (λ t. rw (t, not-in m t) (chain-latest m fuel (omega arith) (rw t at g)))
     where
-      not-in : (m : ℕ) → eqb (bucketAt s words m) b ≡ false → f m ≡ false
+      not-in : (m : ℕ) → eqb (bucketAt words m) b ≡ false → f m ≡ false
       not-in m t =
-          by-test (f m) (λ u. absurd (let z : _≡_ {A = Bool} true false = sym (eq-eqb (bucketAt s words m) b (inside m u)) ∙ t in true≢false z)) (λ u. u)
+          by-test (f m) (λ u. absurd (let z : _≡_ {A = Bool} true false = sym (eq-eqb (bucketAt words m) b (inside m u)) ∙ t in true≢false z)) (λ u. u)
 
-      in-bucket : (m fuel : ℕ) → suc m ≤ n → suc m ≤ fuel → bucketAt s words m ≡ b
-          → ((k : ℕ) → latest (isIn s words b) m ≤ k → seekFrom f words k (latest (isIn s words b) m) ≡ latest f m)
+      in-bucket : (m fuel : ℕ) → suc m ≤ n → suc m ≤ fuel → bucketAt words m ≡ b
+          → ((k : ℕ) → latest (isIn words b) m ≤ k → seekFrom f words k (latest (isIn words b) m) ≡ latest f m)
           → seekFrom f words fuel (suc m) ≡ cond (f m) (suc m) (latest f m)
       in-bucket m zero h g e go = absurd (omega arith)
       in-bucket m (suc fuel) h g e go =
-          let l : nextOf words (suc m) ≡ latest (isIn s words b) m = c .links m (omega arith) ∙ ap (λ (x : ℕ). latest (isIn s words x) m) e in
+          let l : nextOf words (suc m) ≡ latest (isIn words b) m = c .links m (omega arith) ∙ ap (λ (x : ℕ). latest (isIn words x) m) e in
           let k : suc m - 1 ≡ m = omega arith in
-          let most = latest-most (isIn s words b) m in
+          let most = latest-most (isIn words b) m in
           rw (eqb-zero m, k, l, go fuel (omega arith))
         where
           eqb-zero : (m : ℕ) → eqb (suc m) 0 ≡ false
           eqb-zero m = ne-eqb (suc m) 0 (λ z. omega arith)
 
--- a pair that has a name is in the name's bucket
-pub named-bucket : (s : Scope) (words : List ℕ) (name : Bytes) (want : Want) (i : ℕ) → hasNamed s words name want i ≡ true
-    → bucketAt s words i ≡ bucketOf (s .op) words name
-unfolding hasNamed bucketOf
-named-bucket s words name want i h =
-    let k = and-eq-true-iff _ _ .0 h in
-    rw (hash-name (s .op) (nameAt (s .card) words i) name (k .0))
-
-module _ (s : Scope) (words : List ℕ) (n : ℕ) (r : n ≤ room words) (c : Chained s words n) (name : Bytes) (want : Want) where
-  abbrev Test : ℕ → Bool
-  Test = isWanted s words name want
-
-  abbrev Named : ℕ → Bool
-  Named = hasNamed s words name want
-
-  test-bucket : (i : ℕ) → Test i ≡ true → bucketAt s words i ≡ bucketOf (s .op) words name
-  unfolding isWanted
-  test-bucket i h = named-bucket s words name want i (and-eq-true-iff (eqb (numberAt words i) (numberOf (s .op) name)) (hasNamed s words name want i) .0 h .1)
-
-  -- numbers never separate names that are the same
-  test-named : (i : ℕ) → i < n → Test i ≡ Named i
-  unfolding isWanted hasNamed
-  test-named i l =
+module _ (s : Scope) (words : List ℕ) (n : ℕ) (r : n ≤ room words) (c : Chained s words n) (name : Bytes) where
+  -- a pair that has a name has the name's number
+  pub named-number : (want : Want) (i : ℕ) → i < n → hasNamed s words name want i ≡ true → numberAt words i ≡ numberOf (s .op) name
+  unfolding hasNamed
+  named-number want i l h =
       let own = nameAt (s .card) words i in
-      rw (c .numbers i l)
-      (by-test (operationOf (s .op) .sameName own name)
-      (λ t. rw (eq-eqb (numberOf (s .op) own) (numberOf (s .op) name) (ap (λ (x : ℕ). x % 65536) (hash-name (s .op) own name t))))
-      (λ t. rw t (and-false (eqb (numberOf (s .op) own) (numberOf (s .op) name)))))
+      c .numbers i l
+      ∙ number-name (s .op) own name (and-eq-true-iff (operationOf (s .op) .sameName own name) (hasWanted s want (wordAt words i)) .0 h .0)
 
-  -- THE LAW: from the head of a name's bucket, the newest of all
-  pub seek-head : 0 < room words → seek Test words (headOf words (bucketOf (s .op) words name)) ≡ latest Named n
-  unfolding seek
-  seek-head o =
-      let b = bucketOf (s .op) words name in
-      let e : headOf words b ≡ latest (isIn s words b) n = c .heads b (bucket-inside (s .op) words name o) in
-      let m = latest-most (isIn s words b) n in
-      rw (e, le-ltb (room words) (latest (isIn s words b) n) (omega arith))
-      (chain-latest s words n c Test b test-bucket n (latest (isIn s words b) n) (omega arith) (omega arith) ∙ latest-same Test Named n test-named)
+  module _ (number : ℕ) (e : number ≡ numberOf (s .op) name) (want : Want) where
+    abbrev Test : ℕ → Bool
+    Test = isWanted s words name number want
 
-  -- and after a pair that has the name, the newest of those ahead of it
-  pub seek-after : (i : ℕ) → i < n → bucketAt s words i ≡ bucketOf (s .op) words name → seek Test words (nextOf words (suc i)) ≡ latest Named i
-  unfolding seek
-  seek-after i l e =
-      let b = bucketOf (s .op) words name in
-      let f : nextOf words (suc i) ≡ latest (isIn s words b) i = c .links i l ∙ ap (λ (x : ℕ). latest (isIn s words x) i) e in
-      let m = latest-most (isIn s words b) i in
-      rw (f, le-ltb (room words) (latest (isIn s words b) i) (omega arith))
-      (chain-latest s words n c Test b test-bucket i (latest (isIn s words b) i) (omega arith) (omega arith)
-      ∙ latest-same Test Named i (λ j k. test-named j (omega arith)))
+    abbrev Named : ℕ → Bool
+    Named = hasNamed s words name want
+
+    test-bucket : (i : ℕ) → Test i ≡ true → bucketAt words i ≡ bucketOf words number
+    unfolding isWanted
+    test-bucket i h =
+        ap (bucketOf words) (eqb-true (numberAt words i) number (and-eq-true-iff (eqb (numberAt words i) number) (hasNamed s words name want i) .0 h .0))
+
+    -- numbers never separate names that are the same
+    test-named : (i : ℕ) → i < n → Test i ≡ Named i
+    unfolding isWanted
+    test-named i l =
+        by-test (Named i) (λ t. rw (t, eq-eqb (numberAt words i) number (named-number want i l t ∙ sym e)))
+        (λ t. rw (t, and-false (eqb (numberAt words i) number)))
+
+    -- THE LAW: from the head of a number's bucket, the newest of all
+    pub seek-head : 0 < room words → seek Test words (headOf words (bucketOf words number)) ≡ latest Named n
+    unfolding seek
+    seek-head o =
+        let b = bucketOf words number in
+        let f : headOf words b ≡ latest (isIn words b) n = c .heads b (bucket-inside words number o) in
+        let m = latest-most (isIn words b) n in
+        rw (f, le-ltb (room words) (latest (isIn words b) n) (omega arith))
+        (chain-latest s words n c Test b test-bucket n (latest (isIn words b) n) (omega arith) (omega arith) ∙ latest-same Test Named n test-named)
+
+    -- and after a pair that has the number, the newest of those ahead of it
+    pub seek-after : (i : ℕ) → i < n → numberAt words i ≡ number → seek Test words (nextOf words (suc i)) ≡ latest Named i
+    unfolding seek
+    seek-after i l q =
+        let b = bucketOf words number in
+        let f : nextOf words (suc i) ≡ latest (isIn words b) i = c .links i l ∙ ap (λ (x : ℕ). latest (isIn words (bucketOf words x)) i) q in
+        let m = latest-most (isIn words b) i in
+        rw (f, le-ltb (room words) (latest (isIn words b) i) (omega arith))
+        (chain-latest s words n c Test b test-bucket i (latest (isIn words b) i) (omega arith) (omega arith)
+        ∙ latest-same Test Named i (λ j k. test-named j (omega arith)))

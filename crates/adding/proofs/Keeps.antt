@@ -11,13 +11,13 @@ use Rattle.wire.specs.Numbers.{Bytes}
 use Rattle.wire.proofs.Less.{less}
 use Rattle.rast.proofs.Tests.{by-test}
 use Rattle.prefix.specs.Prefix.{Scope}
-use Rattle.comparing.specs.Compares.{placeIn, baseWord, baseAt}
+use Rattle.comparing.specs.Compares.{numberOf, placeIn, baseWord, baseAt}
 use Rattle.comparing.proofs.Bases.{word-place}
-use Rattle.chains.specs.Chains.{room, nameAt, numberAt, numberOf, wordAt, bucketOf, headOf, nextOf}
+use Rattle.chains.specs.Chains.{room, nameAt, numberAt, wordAt, bucketOf, headOf, nextOf}
+use Rattle.chains.proofs.Tests.{bucket-inside}
 use Rattle.pairs.specs.Stored.{Stored, stored}
 use Rattle.adding.specs.Adds.{putPair, nameIn, namedIn, bucketIn, wordIn}
 use Rattle.adding.specs.Holds.{latest, pairAt, pairsFrom, pairsIn, bucketAt, isIn, Chained}
-use Rattle.adding.proofs.Tests.{bucket-inside}
 use Rattle.adding.proofs.Chain.{latest-most, latest-same}
 use Rattle.adding.proofs.Puts.{put-length, put-first, put-at, put-len, put-base, put-heads, put-next, put-nexts}
 
@@ -95,44 +95,44 @@ module _ (s : Scope) (words : List ℕ) (n at len base : ℕ) (small : base < 65
       ∙ ap₂ (λ (x : List Stored) (y : Stored). x ++ (y ∷ [])) (pairs-kept 0 n (omega arith))
       (ap (pairAt s Put) (let z : 0 + n ≡ n = omega arith in z) ∙ pair-new)
 
-  -- buckets depend on names and on how many words there are
-  bucket-long : (name : Bytes) → bucketOf (s .op) Put name ≡ bucketOf (s .op) words name
+  -- buckets depend on numbers and on how many words there are
+  bucket-long : (number : ℕ) → bucketOf Put number ≡ bucketOf words number
   unfolding bucketOf
-  bucket-long name = rw (put-length words n Bucket First len Word)
+  bucket-long number = rw (put-length words n Bucket First len Word)
 
-  bucket-kept : (i : ℕ) → i < n → bucketAt s Put i ≡ bucketAt s words i
-  bucket-kept i h = bucket-long (nameAt (s .card) Put i) ∙ ap (bucketOf (s .op) words) (name-kept i h)
+  bucket-kept : (i : ℕ) → i < n → bucketAt Put i ≡ bucketAt words i
+  bucket-kept i h = bucket-long (numberAt Put i) ∙ ap (λ (x : ℕ). bucketOf words (x / 65536)) (first-kept i h)
 
-  bucket-new : bucketAt s Put n ≡ Bucket
-  bucket-new = bucket-long (nameAt (s .card) Put n) ∙ ap (bucketOf (s .op) words) name-new
+  bucket-new : bucketAt Put n ≡ Bucket
+  bucket-new = bucket-long (numberAt Put n) ∙ ap (bucketOf words) number-new
 
-  latest-kept : (b m : ℕ) → m ≤ n → latest (isIn s Put b) m ≡ latest (isIn s words b) m
-  latest-kept b m h = latest-same (isIn s Put b) (isIn s words b) m (λ i l. ap (λ (x : ℕ). eqb x b) (bucket-kept i (omega arith)))
+  latest-kept : (b m : ℕ) → m ≤ n → latest (isIn Put b) m ≡ latest (isIn words b) m
+  latest-kept b m h = latest-same (isIn Put b) (isIn words b) m (λ i l. ap (λ (x : ℕ). eqb x b) (bucket-kept i (omega arith)))
 
   bucket-most : Bucket < room words
-  bucket-most = bucket-inside (s .op) words Name (omega arith)
+  bucket-most = bucket-inside words (numberOf (s .op) Name) (omega arith)
 
   head-most : headOf words Bucket ≤ n
-  head-most = rw (c .heads Bucket bucket-most) (latest-most (isIn s words Bucket) n)
+  head-most = rw (c .heads Bucket bucket-most) (latest-most (isIn words Bucket) n)
 
   head-small : headOf words Bucket < 65536
   head-small = let h = head-most in omega arith
 
-  heads-put : (b : ℕ) → b < room Put → headOf Put b ≡ latest (isIn s Put b) (suc n)
+  heads-put : (b : ℕ) → b < room Put → headOf Put b ≡ latest (isIn Put b) (suc n)
   unfolding latest
   heads-put b h =
       let e = put-length words n Bucket First len Word in
       put-heads words n Bucket First len Word r bucket-most head-small b
       ∙ rw (bucket-new, latest-kept b n (omega arith), c .heads b (omega arith))
-      (ap (λ (x : Bool). cond x (suc n) (latest (isIn s words b) n)) (eqb-turned b Bucket))
+      (ap (λ (x : Bool). cond x (suc n) (latest (isIn words b) n)) (eqb-turned b Bucket))
 
-  links-put : (i : ℕ) → i < suc n → nextOf Put (suc i) ≡ latest (isIn s Put (bucketAt s Put i)) i
+  links-put : (i : ℕ) → i < suc n → nextOf Put (suc i) ≡ latest (isIn Put (bucketAt Put i)) i
   links-put i h =
       by-test (eqb i n)
       (λ t. rw (eqb-true i n t, bucket-new, latest-kept Bucket n (omega arith))
       (put-next words n Bucket First len Word r bucket-most head-small head-most ∙ c .heads Bucket bucket-most))
       (λ t. let l : i < n = less i n (omega arith) (eqb-false i n t) in
-      rw (bucket-kept i l, latest-kept (bucketAt s words i) i (omega arith))
+      rw (bucket-kept i l, latest-kept (bucketAt words i) i (omega arith))
       (put-nexts words n Bucket First len Word r bucket-most head-small i l ∙ c .links i l))
 
   bases-put : (i : ℕ) → i < suc n → wordAt Put i ≡ baseWord (s .op) (s .card) (placeIn (wordAt Put i))

@@ -8,12 +8,10 @@ use lib.ListN.{length, take, getD, set, length-append, take-append-drop}
 use lib.Seq.{getD-set-other, getD-take, length-take-le, take-append-seam}
 use lib.Dec.{eqb, ltb}
 use borrow.Author.Tests.{eqb-true, eqb-false, le-ltb}
-use Rattle.wire.specs.Numbers.{Bytes}
 use Rattle.rast.proofs.Tests.{by-test}
 use Rattle.prefix.specs.Prefix.{Scope}
-use Rattle.operation.specs.declared.Shortening.{Shortening}
-use Rattle.comparing.specs.Compares.{placeIn, baseWord}
-use Rattle.chains.specs.Chains.{room, nameAt, numberAt, numberOf, wordAt, bucketOf}
+use Rattle.comparing.specs.Compares.{numberOf, placeIn, baseWord}
+use Rattle.chains.specs.Chains.{room, nameAt, numberAt, wordAt, bucketOf}
 use Rattle.pairs.specs.Stored.{Stored}
 use Rattle.adding.specs.Adds.{Table, table, startedFrom, started, putPair}
 use Rattle.adding.specs.Holds.{pairAt, pairsFrom, pairsIn, Chained, Has}
@@ -27,36 +25,35 @@ use Rattle.adding.proofs.Keeps.{chained-put}
 abbrev Same : List ℕ → List ℕ → ℕ → Type 0
 Same words these n = (i k : ℕ) → i < n → k < 3 → getD words (4 * i + k) 0 ≡ getD these (4 * i + k) 0
 
-module _ (op : Shortening) (card : Bytes) where
-  pub from-length : (words : List ℕ) (i n : ℕ) → length (putAgainFrom op card words i n) ≡ length words
-  unfolding putAgainFrom
-  from-length words i zero = refl
-  from-length words i (suc n) = from-length (putAgain op card words i) (suc i) n ∙ again-length op card words i
+pub from-length : (words : List ℕ) (i n : ℕ) → length (putAgainFrom words i n) ≡ length words
+unfolding putAgainFrom
+from-length words i zero = refl
+from-length words i (suc n) = from-length (putAgain words i) (suc i) n ∙ again-length words i
 
-  pub settled-length : (words : List ℕ) → length (settled op card words) ≡ length words
-  unfolding settled
-  settled-length words = from-length (started words) 0 (room words) ∙ started-length words
+pub settled-length : (words : List ℕ) → length (settled words) ≡ length words
+unfolding settled
+settled-length words = from-length (started words) 0 (room words) ∙ started-length words
 
-  -- putting a pair again leaves the three words of each
-  again-own : (words : List ℕ) (i : ℕ) → i < room words → (k : ℕ) → k < 3 → getD (putAgain op card words i) (4 * i + k) 0 ≡ getD words (4 * i + k) 0
-  unfolding putAgain
-  again-own words i r zero l =
-      let z : 4 * i + 0 ≡ 4 * i = omega arith in
-      rw z (put-at words i (bucketOf op words (nameAt card words i)) (getD words (4 * i) 0) (getD words (4 * i + 1) 0) (wordAt words i) r)
-  again-own words i r (suc zero) l =
-      put-len words i (bucketOf op words (nameAt card words i)) (getD words (4 * i) 0) (getD words (4 * i + 1) 0) (wordAt words i) r
-  again-own words i r (suc (suc zero)) l =
-      put-base words i (bucketOf op words (nameAt card words i)) (getD words (4 * i) 0) (getD words (4 * i + 1) 0) (wordAt words i) r
-  again-own words i r (suc (suc (suc k))) l = absurd (omega arith)
+-- putting a pair again leaves the three words of each
+again-own : (words : List ℕ) (i : ℕ) → i < room words → (k : ℕ) → k < 3 → getD (putAgain words i) (4 * i + k) 0 ≡ getD words (4 * i + k) 0
+unfolding putAgain
+again-own words i r zero l =
+    let z : 4 * i + 0 ≡ 4 * i = omega arith in
+    rw z (put-at words i (bucketOf words (numberAt words i)) (getD words (4 * i) 0) (getD words (4 * i + 1) 0) (wordAt words i) r)
+again-own words i r (suc zero) l =
+    put-len words i (bucketOf words (numberAt words i)) (getD words (4 * i) 0) (getD words (4 * i + 1) 0) (wordAt words i) r
+again-own words i r (suc (suc zero)) l =
+    put-base words i (bucketOf words (numberAt words i)) (getD words (4 * i) 0) (getD words (4 * i + 1) 0) (wordAt words i) r
+again-own words i r (suc (suc (suc k))) l = absurd (omega arith)
 
-  again-other : (words : List ℕ) (i j k : ℕ) → (j ≡ i → ⊥) → k < 3 → getD (putAgain op card words i) (4 * j + k) 0 ≡ getD words (4 * j + k) 0
-  unfolding putAgain
-  again-other words i j k d l =
-      put-others words i (bucketOf op words (nameAt card words i)) (getD words (4 * i) 0) (getD words (4 * i + 1) 0) (wordAt words i) j k d l
+again-other : (words : List ℕ) (i j k : ℕ) → (j ≡ i → ⊥) → k < 3 → getD (putAgain words i) (4 * j + k) 0 ≡ getD words (4 * j + k) 0
+unfolding putAgain
+again-other words i j k d l =
+    put-others words i (bucketOf words (numberAt words i)) (getD words (4 * i) 0) (getD words (4 * i + 1) 0) (wordAt words i) j k d l
 
-  again-same : (words : List ℕ) (i : ℕ) → i < room words → (j k : ℕ) → k < 3 → getD (putAgain op card words i) (4 * j + k) 0 ≡ getD words (4 * j + k) 0
-  again-same words i r j k l =
-      by-test (eqb j i) (λ t. rw (eqb-true j i t) (again-own words i r k l)) (λ t. again-other words i j k (eqb-false j i t) l)
+again-same : (words : List ℕ) (i : ℕ) → i < room words → (j k : ℕ) → k < 3 → getD (putAgain words i) (4 * j + k) 0 ≡ getD words (4 * j + k) 0
+again-same words i r j k l =
+    by-test (eqb j i) (λ t. rw (eqb-true j i t) (again-own words i r k l)) (λ t. again-other words i j k (eqb-false j i t) l)
 
 -- each base is a word, and each name's number its own
 abbrev Word : Scope → List ℕ → ℕ → Type 0
@@ -72,23 +69,21 @@ word-same s words these n i h l w =
     let a : getD words (4 * i) 0 ≡ getD these (4 * i) 0 = rw z at (h i 0 l (omega arith)) in
     rw (a, h i 1 l (omega arith), h i 2 l (omega arith)) w
 
-halves : (x y : ℕ) → x / 65536 ≡ y → x % 65536 + 65536 * y ≡ x
-halves x y e = omega arith
+halves : (x : ℕ) → x % 65536 + 65536 * (x / 65536) ≡ x
+halves x = omega arith
 
 module _ (s : Scope) where
-  chained-again : (words : List ℕ) (i : ℕ) → i < room words → Word s words i → Chained s words i
-      → Chained s (putAgain (s .op) (s .card) words i) (suc i)
+  chained-again : (words : List ℕ) (i : ℕ) → i < room words → Word s words i → Chained s words i → Chained s (putAgain words i) (suc i)
   unfolding putAgain
   chained-again words i r e c =
-      subst (λ (w : ℕ). Chained s
-      (putPair words i (bucketOf (s .op) words (nameAt (s .card) words i)) (getD words (4 * i) 0) (getD words (4 * i + 1) 0) w) (suc i))
-      (sym (e .0))
-      (subst (λ (x : ℕ). Chained s
-      (putPair words i (bucketOf (s .op) words (nameAt (s .card) words i)) x (getD words (4 * i + 1) 0)
-      (baseWord (s .op) (s .card) (placeIn (wordAt words i)))) (suc i))
-      (halves (getD words (4 * i) 0) _ (e .1))
-      (chained-put s words i (getD words (4 * i) 0) (getD words (4 * i + 1) 0) (placeIn (wordAt words i))
-      (let z : placeIn (wordAt words i) < 65536 = omega arith in z) r c))
+      let at = getD words (4 * i) 0 in
+      let len = getD words (4 * i + 1) 0 in
+      let place = placeIn (wordAt words i) in
+      let base = baseWord (s .op) (s .card) place in
+      let put = chained-put s words i at len place (let z : place < 65536 = omega arith in z) r c in
+      let own = subst (λ (x : ℕ). Chained s (putPair words i (bucketOf words x) (at % 65536 + 65536 * x) len base) (suc i)) (sym (e .1)) put in
+      let whole = subst (λ (x : ℕ). Chained s (putPair words i (bucketOf words (numberAt words i)) x len base) (suc i)) (halves at) own in
+      subst (λ (x : ℕ). Chained s (putPair words i (bucketOf words (numberAt words i)) at len x) (suc i)) (sym (e .0)) whole
 
   -- n pairs put again behind i that are: the chains of all are whole, and each is what it was
   pub record Rechained (these words : List ℕ) (n : ℕ) : Type 0 where
@@ -97,20 +92,18 @@ module _ (s : Scope) where
     pub chained : Chained s words n
 
   rechained : (these words : List ℕ) → Words s these (room these) → (i n : ℕ) → i + n ≤ room these → Rechained these words i
-      → Rechained these (putAgainFrom (s .op) (s .card) words i n) (i + n)
+      → Rechained these (putAgainFrom words i n) (i + n)
   unfolding putAgainFrom
   rechained these words b i zero l h = rw add-zero h
   rechained these words b i (suc n) l h =
-      let op = s .op in
-      let card = s .card in
       let long = h .long in
       let r : i < room words = omega arith in
       let z : suc i + n ≡ i + suc n = omega arith in
       rw (sym z)
-      (rechained these (putAgain op card words i) b (suc i) n (omega arith)
+      (rechained these (putAgain words i) b (suc i) n (omega arith)
       (record {
-        long = again-length op card words i ∙ h .long;
-        same = λ j k g o. again-same op card words i r j k o ∙ h .same j k g o;
+        long = again-length words i ∙ h .long;
+        same = λ j k g o. again-same words i r j k o ∙ h .same j k g o;
         chained = chained-again words i r (word-same s words these (room these) i (h .same) (omega arith) (b i (omega arith))) (h .chained);
       }))
 
@@ -157,23 +150,23 @@ module _ (s : Scope) (words : List ℕ) (n : ℕ) (r : n ≤ room words) where
         chained = start-has s Own .chained (omega arith);
       }
 
-  settled-is : Chained s words n → Rechained s Own (settled (s .op) (s .card) Own) n
+  settled-is : Chained s words n → Rechained s Own (settled Own) n
   unfolding settled
   settled-is c =
       let e = own-room in
       let z : 0 + room Own ≡ n = omega arith in
-      subst (Rechained s Own (putAgainFrom (s .op) (s .card) (started Own) 0 (room Own))) z
+      subst (Rechained s Own (putAgainFrom (started Own) 0 (room Own))) z
       (rechained s Own (started Own) (own-words c) 0 (room Own) (omega arith) started-rechained)
 
-  settled-pairs : Chained s words n → pairsIn s (settled (s .op) (s .card) Own) n ≡ pairsIn s words n
+  settled-pairs : Chained s words n → pairsIn s (settled Own) n ≡ pairsIn s words n
   settled-pairs c =
       let e = own-room in
-      pairs-same s (settled (s .op) (s .card) Own) words n (λ i k g l. settled-is c .same i k (omega arith) l ∙ own-same i k g l) 0 n (omega arith)
+      pairs-same s (settled Own) words n (λ i k g l. settled-is c .same i k (omega arith) l ∙ own-same i k g l) 0 n (omega arith)
 
   -- THE LAW
-  pub settled-has : (ps : List Stored) → Has s (table n words) ps → Has s (table n (settled (s .op) (s .card) Own)) ps
+  pub settled-has : (ps : List Stored) → Has s (table n words) ps → Has s (table n (settled Own)) ps
   settled-has ps h =
-      let e : room (settled (s .op) (s .card) Own) ≡ n = ap (λ (x : ℕ). min (x / 4) 65535) (settled-length (s .op) (s .card) Own) ∙ own-room in
+      let e : room (settled Own) ≡ n = ap (λ (x : ℕ). min (x / 4) 65535) (settled-length Own) ∙ own-room in
       let c = h .count in
       let fits : length ps ≤ room words = omega arith in
       record {
@@ -183,24 +176,24 @@ module _ (s : Scope) (words : List ℕ) (n : ℕ) (r : n ≤ room words) where
       }
 
 -- what a table that is not full is once settled
-module _ (op : Shortening) (card : Bytes) (t : Table) where
-  pub settled-table-count : settledTable op card t .count ≡ t .count
+module _ (t : Table) where
+  pub settled-table-count : settledTable t .count ≡ t .count
   unfolding settledTable
   settled-table-count = by-test (ltb (room (t .words)) (t .count)) (λ e. rw e) (λ e. rw e)
 
-  pub settled-table-length : length (settledTable op card t .words) ≡ length (t .words)
+  pub settled-table-length : length (settledTable t .words) ≡ length (t .words)
   unfolding settledTable
   settled-table-length =
       by-test (ltb (room (t .words)) (t .count)) (λ e. rw e)
       (λ e. rw e
-      (length-append (settled op card (ownWords t)) (freeWords t)
-      ∙ ap (λ (x : ℕ). x + length (freeWords t)) (settled-length op card (ownWords t))
+      (length-append (settled (ownWords t)) (freeWords t)
+      ∙ ap (λ (x : ℕ). x + length (freeWords t)) (settled-length (ownWords t))
       ∙ sym (length-append (ownWords t) (freeWords t)) ∙ ap length (take-append-drop (4 * t .count) (t .words))))
 
-  pub settled-own : t .count ≤ room (t .words) → ownWords (settledTable op card t) ≡ settled op card (ownWords t)
+  pub settled-own : t .count ≤ room (t .words) → ownWords (settledTable t) ≡ settled (ownWords t)
   unfolding settledTable
   settled-own r =
-      let l : length (settled op card (ownWords t)) ≡ 4 * t .count =
-      settled-length op card (ownWords t) ∙ length-take-le (4 * t .count) (t .words) (omega arith) in
+      let l : length (settled (ownWords t)) ≡ 4 * t .count =
+      settled-length (ownWords t) ∙ length-take-le (4 * t .count) (t .words) (omega arith) in
       rw (le-ltb (room (t .words)) (t .count) r)
-      (ap (λ (x : ℕ). take x (settled op card (ownWords t) ++ freeWords t)) (sym l) ∙ take-append-seam (settled op card (ownWords t)) (freeWords t))
+      (ap (λ (x : ℕ). take x (settled (ownWords t) ++ freeWords t)) (sym l) ∙ take-append-seam (settled (ownWords t)) (freeWords t))

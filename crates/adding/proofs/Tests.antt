@@ -5,18 +5,17 @@ use mathlib.Core.List.{List}
 use Prim.Native.Nat.{ℕ, suc, _+_, _-_, _*_, _/_, _%_, _<_, _≤_}
 use native.Mathlib.Omega.{arith}
 use native.Mathlib.Numerals.{add-one}
-use native.Mathlib.Nat.{mod-lt}
 use lib.ListN.{length, take, drop, getD, set, length-set}
 use lib.Dec.{ltb}
 use borrow.Author.Tests.{eq-eqb, ne-eqb, lt-ltb, le-ltb}
 use Rattle.wire.specs.Numbers.{Bytes}
 use Rattle.wire.proofs.Less.{less}
 use Rattle.prefix.specs.Prefix.{Scope}
-use Rattle.operation.specs.declared.Shortening.{Shortening}
-use Rattle.comparing.specs.Compares.{hash, baseWord}
+use Rattle.comparing.specs.Compares.{numberOf, baseWord}
 use Rattle.chains.specs.declared.Want.the-variants.{Based}
 use Rattle.chains.specs.Chains.{room, bucketOf, headOf, isWanted, seek}
-use Rattle.adding.specs.Adds.{Table, table, startedFrom, started, putPair, nameIn, bucketIn, wordIn, isThere, added}
+use Rattle.chains.proofs.Tests.{bucket-inside}
+use Rattle.adding.specs.Adds.{Table, table, startedFrom, started, putPair, nameIn, numberIn, bucketIn, wordIn, isThere, added}
 
 -- starting: the pairs from pair i on are left
 pub record Starting (words₀ words : List ℕ) (n i : ℕ) : Type 0 where
@@ -57,11 +56,6 @@ pub put-is : (words : List ℕ) (n b at len base first h l : ℕ) → first ≡ 
 unfolding putPair
 put-is words n b at len base first h l e f g = rw (g, f, e)
 
--- a bucket is one of as many as there is room for
-pub bucket-inside : (op : Shortening) (words : List ℕ) (name : Bytes) → 0 < room words → bucketOf op words name < room words
-unfolding bucketOf
-bucket-inside op words name h = rw (ne-eqb (room words) 0 (λ z. omega arith)) (mod-lt (hash op name / 65536) h)
-
 module _ (s : Scope) (words : List ℕ) (n at len base : ℕ) (most : ℕ) (e : most ≡ room words) where
   abbrev After : Table
   After = added s (table n words) at len base
@@ -70,21 +64,24 @@ module _ (s : Scope) (words : List ℕ) (n at len base : ℕ) (most : ℕ) (e : 
   unfolding added
   add-full h = rw (lt-ltb (room words) n (omega arith))
 
-  module _ (r : n ≤ most) (a l : ℕ) (ea : a ≡ at) (el : l ≡ len) (name : Bytes) (p : name ≡ take l (drop (a % 65536) (s .card))) (b w first found : ℕ)
-      (f : b ≡ bucketOf (s .op) words name) (g : w ≡ baseWord (s .op) (s .card) base) (h : first ≡ headOf words b)
-      (k : found ≡ seek (isWanted s words name (Based w)) words first) where
+  module _ (r : n ≤ most) (a l : ℕ) (ea : a ≡ at) (el : l ≡ len) (name : Bytes) (p : name ≡ take l (drop (a % 65536) (s .card))) (number b w first found : ℕ)
+      (d : number ≡ numberOf (s .op) name) (f : b ≡ bucketOf words number) (g : w ≡ baseWord (s .op) (s .card) base) (h : first ≡ headOf words b)
+      (k : found ≡ seek (isWanted s words name number (Based w)) words first) where
     name-is : name ≡ nameIn s words at len base
     name-is = p ∙ rw (ea, el)
 
+    number-is : number ≡ numberIn s words at len base
+    number-is = d ∙ ap (numberOf (s .op)) name-is
+
     bucket-is : b ≡ bucketIn s words at len base
-    bucket-is = f ∙ ap (bucketOf (s .op) words) name-is
+    bucket-is = f ∙ ap (bucketOf words) number-is
 
     there : isThere s words at len base ≡ ltb 0 found
     unfolding isThere
     there =
-        let e : found ≡ seek (isWanted s words (nameIn s words at len base) (Based (wordIn s words at len base))) words
+        let e : found ≡ seek (isWanted s words (nameIn s words at len base) (numberIn s words at len base) (Based (wordIn s words at len base))) words
         (headOf words (bucketIn s words at len base)) =
-        k ∙ rw (h, bucket-is, g, name-is) in
+        k ∙ rw (h, bucket-is, g, number-is, name-is) in
         rw e
 
     pub add-old : 0 < found → table n words ≡ After
@@ -98,11 +95,10 @@ module _ (s : Scope) (words : List ℕ) (n at len base : ℕ) (most : ℕ) (e : 
 
       module _ (q : n ≡ most → ⊥) where
         pub add-room : (n < room words) × (b < room words)
-        add-room = let c = less n most r q in let d = bucket-inside (s .op) words name (omega arith) in (omega arith, omega arith)
+        add-room = let c = less n most r q in let o = bucket-inside words number (omega arith) in (omega arith, omega arith)
 
-        pub add-new : (x : ℕ) → x ≡ hash (s .op) name → (words′ : List ℕ) → words′ ≡ putPair words n b (a % 65536 + 65536 * (x % 65536)) len w
-            → table (n + 1) words′ ≡ After
+        pub add-new : (words′ : List ℕ) → words′ ≡ putPair words n b (a % 65536 + 65536 * number) len w → table (n + 1) words′ ≡ After
         unfolding added
-        add-new x d words′ y =
+        add-new words′ y =
             rw (there, le-ltb 0 found o, le-ltb (room words) n (omega arith), ne-eqb n (room words) (λ z. q (z ∙ sym e)))
-            (ap (table (n + 1)) (y ∙ rw (d, g, bucket-is, name-is, ea)))
+            (ap (table (n + 1)) (y ∙ rw (bucket-is, g, number-is, ea)))

@@ -12,37 +12,37 @@ use Rattle.rast.proofs.Tests.{by-test}
 use Rattle.operation.specs.declared.Shortening.{Shortening}
 use Rattle.operation.specs.Operations.{operationOf, samePaths}
 use Rattle.prefix.specs.Prefix.{Scope}
-use Rattle.comparing.specs.Compares.{hash, placeIn, tagIn, baseWord, baseAt, sameBase}
-use Rattle.comparing.proofs.Operations.{hash-path}
+use Rattle.comparing.specs.Compares.{numberOf, placeIn, tagIn, baseWord, baseAt, sameBase}
+use Rattle.comparing.proofs.Operations.{number-path}
 use Rattle.comparing.proofs.Bases.{word-place}
 use Rattle.chains.specs.declared.Want.the-variants.{Based}
 use Rattle.chains.specs.Chains.{room, nameAt, wordAt, headOf, hasWanted, hasNamed, seekFrom, seek}
 use Rattle.pairs.specs.Stored.{holdsPair}
-use Rattle.adding.specs.Adds.{nameIn, bucketIn, wordIn, isThere}
+use Rattle.adding.specs.Adds.{nameIn, numberIn, bucketIn, wordIn, isThere}
 use Rattle.adding.specs.Holds.{latest, pairAt, pairsFrom, pairsIn, Chained}
 use Rattle.adding.proofs.Chain.{latest-most, latest-true, latest-none, seek-head}
 
--- the number above a path's place is the upper half of its record's hash
-word-tag : (op : Shortening) (card : Bytes) (p : ℕ) → p < 65536 → eqb p 0 ≡ false → tagIn (baseWord op card p) ≡ hash op (recordAt card p) / 65536
+-- the number above a path's place is that of its record
+word-tag : (op : Shortening) (card : Bytes) (p : ℕ) → p < 65536 → eqb p 0 ≡ false → tagIn (baseWord op card p) ≡ numberOf op (recordAt card p)
 unfolding baseWord
-word-tag op card p l t = rw t (above p (hash op (recordAt card p) / 65536) l)
+word-tag op card p l t = rw t (above p (numberOf op (recordAt card p)) l)
   where
     above : (p h : ℕ) → p < 65536 → (p + 65536 * h) / 65536 ≡ h
     above p h l = omega arith
 
 module _ (s : Scope) (p q : ℕ) where
-  abbrev Hash : ℕ → ℕ
-  Hash x = hash (s .op) (recordAt (s .card) x) / 65536
+  abbrev Number : ℕ → ℕ
+  Number x = numberOf (s .op) (recordAt (s .card) x)
 
-  -- different hashes, different paths
-  hashed : eqb p 0 ≡ false → eqb q 0 ≡ false
-      → cond (eqb (Hash p) (Hash q)) (samePaths (s .op) (baseAt s p) (baseAt s q)) false ≡ samePaths (s .op) (baseAt s p) (baseAt s q)
+  -- different numbers, different paths
+  told : eqb p 0 ≡ false → eqb q 0 ≡ false
+      → cond (eqb (Number p) (Number q)) (samePaths (s .op) (baseAt s p) (baseAt s q)) false ≡ samePaths (s .op) (baseAt s p) (baseAt s q)
   unfolding baseAt
-  hashed t u =
+  told t u =
       rw (t, u)
       (by-test (samePaths (s .op) (recordAt (s .card) p) (recordAt (s .card) q))
-      (λ v. rw (v, eq-eqb (Hash p) (Hash q) (ap (λ (x : ℕ). x / 65536) (hash-path (s .op) (recordAt (s .card) p) (recordAt (s .card) q) v))))
-      (λ v. rw v (by-test (eqb (Hash p) (Hash q)) (λ w. rw w) (λ w. rw w))))
+      (λ v. rw (v, eq-eqb (Number p) (Number q) (number-path (s .op) (recordAt (s .card) p) (recordAt (s .card) q) v)))
+      (λ v. rw v (by-test (eqb (Number p) (Number q)) (λ w. rw w) (λ w. rw w))))
 
   -- numbers above places never separate bases that are the same
   pub same-words : p < 65536 → q < 65536
@@ -52,7 +52,7 @@ module _ (s : Scope) (p q : ℕ) where
       rw (word-place (s .op) (s .card) p lp, word-place (s .op) (s .card) q lq)
       (by-test (eqb p 0) (λ t. rw t)
       (λ t. by-test (eqb q 0) (λ u. rw (t, u))
-      (λ u. rw (t, u, word-tag (s .op) (s .card) p lp t, word-tag (s .op) (s .card) q lq u) (hashed t u))))
+      (λ u. rw (t, u, word-tag (s .op) (s .card) p lp t, word-tag (s .op) (s .card) q lq u) (told t u))))
 
 module _ (s : Scope) (words : List ℕ) (k b : Bytes) where
   -- whether pair i has this name and this base
@@ -108,7 +108,7 @@ module _ (s : Scope) (words : List ℕ) (n : ℕ) (r : n ≤ room words) (c : Ch
   there-some : 0 < room words → isThere s words at len base ≡ Holds
   unfolding isThere
   there-some o =
-      rw (seek-head s words n r c Name (Based (wordIn s words at len base)) o)
+      rw (seek-head s words n r c Name (numberIn s words at len base) refl (Based (wordIn s words at len base)) o)
       (holds-latest s words Name (baseAt s base) (hasNamed s words Name (Based (wordIn s words at len base))) n wanted-is)
 
   -- THE LAW: seeking finds a pair just where the words hold it

@@ -6,9 +6,9 @@ use lib.ListN.{take, drop, getD, set}
 use lib.Dec.{eqb, ltb}
 use Rattle.wire.specs.Numbers.{Bytes}
 use Rattle.prefix.specs.Prefix.{Scope}
-use Rattle.comparing.specs.Compares.{baseWord}
+use Rattle.comparing.specs.Compares.{numberOf, baseWord}
 use Rattle.chains.specs.declared.Want.the-variants.{Based}
-use Rattle.chains.specs.Chains.{room, numberOf, bucketOf, headOf, isWanted, seek}
+use Rattle.chains.specs.Chains.{room, bucketOf, headOf, isWanted, seek}
 
 -- how many pairs there are, and the words that hold them; one more than the words have room for is a full table
 pub record Table : Type 0 where
@@ -38,18 +38,21 @@ module _ (s : Scope) (words : List ℕ) (at len base : ℕ) where
   abbrev pub nameIn : Bytes
   nameIn = take len (drop (at % 65536) (s .card))
 
-  -- its place and above it its number
+  -- its number, which also stands above its place, and its bucket
+  abbrev pub numberIn : ℕ
+  numberIn = numberOf (s .op) nameIn
+
   abbrev pub namedIn : ℕ
-  namedIn = at % 65536 + 65536 * numberOf (s .op) nameIn
+  namedIn = at % 65536 + 65536 * numberIn
 
   abbrev pub bucketIn : ℕ
-  bucketIn = bucketOf (s .op) words nameIn
+  bucketIn = bucketOf words numberIn
 
   abbrev pub wordIn : ℕ
   wordIn = baseWord (s .op) (s .card) base
 
   unfoldable pub isThere : Bool
-  isThere = ltb 0 (seek (isWanted s words nameIn (Based wordIn)) words (headOf words bucketIn))
+  isThere = ltb 0 (seek (isWanted s words nameIn numberIn (Based wordIn)) words (headOf words bucketIn))
 
 unfoldable pub added : Scope → Table → (at len base : ℕ) → Table
 added s t at len base =

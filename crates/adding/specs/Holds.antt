@@ -6,8 +6,8 @@ use Prim.Native.Nat.{ℕ, zero, suc, _<_, _≤_, min}
 use lib.ListN.{length}
 use lib.Dec.{eqb}
 use Rattle.prefix.specs.Prefix.{Scope}
-use Rattle.comparing.specs.Compares.{placeIn, baseWord, baseAt}
-use Rattle.chains.specs.Chains.{room, nameAt, numberAt, numberOf, wordAt, bucketOf, headOf, nextOf}
+use Rattle.comparing.specs.Compares.{numberOf, placeIn, baseWord, baseAt}
+use Rattle.chains.specs.Chains.{room, nameAt, numberAt, wordAt, bucketOf, headOf, nextOf}
 use Rattle.pairs.specs.Stored.{Stored, stored}
 use Rattle.adding.specs.Adds.{Table}
 
@@ -15,6 +15,13 @@ use Rattle.adding.specs.Adds.{Table}
 unfoldable pub latest : (ℕ → Bool) → ℕ → ℕ
 latest f zero = 0
 latest f (suc n) = cond (f n) (suc n) (latest f n)
+
+-- the bucket of the pair that i pairs stand ahead of, by its number, and whether it is in bucket b
+abbrev pub bucketAt : List ℕ → ℕ → ℕ
+bucketAt words i = bucketOf words (numberAt words i)
+
+abbrev pub isIn : List ℕ → ℕ → ℕ → Bool
+isIn words b i = eqb (bucketAt words i) b
 
 module _ (s : Scope) where
   -- the pair that i pairs stand ahead of, n pairs from it on, and the first n
@@ -27,13 +34,6 @@ module _ (s : Scope) where
 
   abbrev pub pairsIn : List ℕ → ℕ → List Stored
   pairsIn words n = pairsFrom words 0 n
-
-  -- the bucket of its name, and whether it is in bucket b
-  abbrev pub bucketAt : List ℕ → ℕ → ℕ
-  bucketAt words i = bucketOf (s .op) words (nameAt (s .card) words i)
-
-  abbrev pub isIn : List ℕ → ℕ → ℕ → Bool
-  isIn words b i = eqb (bucketAt words i) b
 
   -- the chains of n pairs are whole: a bucket's head is its newest pair, a pair's link is the newest of its bucket ahead of it; and each base is a word,
   -- each name's number its own

@@ -4,23 +4,20 @@ use mathlib.Core.Bool.{cond}
 use Prim.Native.Nat.{ℕ, zero, suc, _+_, _*_}
 use lib.ListN.{take, drop, getD}
 use lib.Dec.{ltb}
-use Rattle.wire.specs.Numbers.{Bytes}
-use Rattle.operation.specs.declared.Shortening.{Shortening}
-use Rattle.chains.specs.Chains.{room, nameAt, wordAt, bucketOf}
+use Rattle.chains.specs.Chains.{room, numberAt, wordAt, bucketOf}
 use Rattle.adding.specs.Adds.{Table, table, started, putPair}
 
-module _ (op : Shortening) (card : Bytes) where
-  -- the pair that i pairs stand ahead of, put again where it stands, and n pairs from it on
-  unfoldable pub putAgain : List ℕ → ℕ → List ℕ
-  putAgain words i = putPair words i (bucketOf op words (nameAt card words i)) (getD words (4 * i) 0) (getD words (4 * i + 1) 0) (wordAt words i)
+-- the pair that i pairs stand ahead of, put again where it stands, and n pairs from it on
+unfoldable pub putAgain : List ℕ → ℕ → List ℕ
+putAgain words i = putPair words i (bucketOf words (numberAt words i)) (getD words (4 * i) 0) (getD words (4 * i + 1) 0) (wordAt words i)
 
-  unfoldable pub putAgainFrom : List ℕ → ℕ → ℕ → List ℕ
-  putAgainFrom words i zero = words
-  putAgainFrom words i (suc n) = putAgainFrom (putAgain words i) (suc i) n
+unfoldable pub putAgainFrom : List ℕ → ℕ → ℕ → List ℕ
+putAgainFrom words i zero = words
+putAgainFrom words i (suc n) = putAgainFrom (putAgain words i) (suc i) n
 
-  -- words that are full of pairs, chained by as many buckets
-  unfoldable pub settled : List ℕ → List ℕ
-  settled words = putAgainFrom (started words) 0 (room words)
+-- words that are full of pairs, chained by as many buckets
+unfoldable pub settled : List ℕ → List ℕ
+settled words = putAgainFrom (started words) 0 (room words)
 
 -- the words that a table's pairs take, and those behind them
 abbrev pub ownWords : Table → List ℕ
@@ -30,5 +27,5 @@ abbrev pub freeWords : Table → List ℕ
 freeWords t = drop (4 * t .count) (t .words)
 
 -- a full table is left
-unfoldable pub settledTable : Shortening → Bytes → Table → Table
-settledTable op card t = cond (ltb (room (t .words)) (t .count)) t (table (t .count) (settled op card (ownWords t) ++ freeWords t))
+unfoldable pub settledTable : Table → Table
+settledTable t = cond (ltb (room (t .words)) (t .count)) t (table (t .count) (settled (ownWords t) ++ freeWords t))

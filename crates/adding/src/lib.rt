@@ -60,13 +60,12 @@ pub fn add(
     }
     let place = wire::word(at) % 65536;
     let name = wire::part(card, place, wire::word(len));
-    let h = comparing::hash(op, name);
-    let b = chains::bucket_by(work, h);
-    let number = h % 65536;
+    let number = comparing::number(op, name);
+    let b = chains::bucket(work, number);
     let w = comparing::base_word(op, card, base);
     let first = chains::head(work, b);
     let want = Want::Based(w);
-    if 0 < seeking::seek_by(op, card, root, chain, work, first, name, number, want) {
+    if 0 < seeking::seek(op, card, root, chain, work, first, name, number, want) {
         return n;
     }
     if n == most {
@@ -77,29 +76,28 @@ pub fn add(
     n + 1
 }
 
-// The pair that i pairs stand ahead of stays where it stands, and becomes the newest of its name's bucket.
-fn put_again(op: Shortening, card: &[u8], work: &mut [u32], i: usize)
+// The pair that i pairs stand ahead of stays where it stands, and becomes the newest of its bucket. Its number says which: no name is looked at.
+fn put_again(work: &mut [u32], i: usize)
     requires { ⌜ i < room (now work) ⌝ }
-    ensures { λ r. ⌜ now (work .exit) ≡ putAgain op (now (card .entry)) (now (work .entry)) i ⌝ }
+    ensures { λ r. ⌜ now (work .exit) ≡ putAgain (now (work .entry)) i ⌝ }
 {
     let k = 4 * i;
     let at = work[k];
     let len = work[k + 1];
     let base = work[k + 2];
-    let name = wire::part(card, wire::word(at) % 65536, wire::word(len));
-    let b = chains::bucket(op, work, name);
+    let b = chains::bucket(work, wire::word(at) / 65536);
     put(work, i, b, at, len, base);
 }
 
 // The chains are set anew over words that are full of pairs: as many buckets as pairs.
-pub fn settle(op: Shortening, card: &[u8], work: &mut [u32])
-    ensures { λ r. ⌜ now (work .exit) ≡ settled op (now (card .entry)) (now (work .entry)) ⌝ }
+pub fn settle(work: &mut [u32])
+    ensures { λ r. ⌜ now (work .exit) ≡ settled (now (work .entry)) ⌝ }
 {
     start(work);
     let pairs = chains::room(work);
     let mut i = 0;
     while i < pairs {
-        put_again(op, card, work, i);
+        put_again(work, i);
         i += 1;
     }
 }

@@ -3,6 +3,7 @@ use mathlib.Core.Path.{_≡_, refl, sym, ap, _∙_}
 use mathlib.Core.List.{List}
 use mathlib.Core.Bool.{Bool, true, false, not, _||_, cond, and-false, true≢false}
 use Prim.Native.Nat.{ℕ, zero, suc, _+_, _-_, _*_, _/_, _%_, _^_, _<_, _≤_}
+use native.Mathlib.Nat.{mul-le-mul-right, add-mul, one-mul}
 use native.Mathlib.Omega.{arith}
 use lib.ListN.{take, drop, getD}
 use lib.Dec.{eqb, ltb}
@@ -11,28 +12,31 @@ use Rattle.wire.specs.Numbers.{Bytes, sameBytes}
 use Rattle.records.specs.Record.{encode, recordAt}
 use Rattle.rast.specs.Path.{«dafny_runtime»}
 use Rattle.rast.proofs.Tests.{by-test}
-use Rattle.operation.specs.declared.Shortening.{Shortening}
 use Rattle.operation.specs.Operations.{operationOf}
 use Rattle.prefix.specs.Prefix.{Scope}
-use Rattle.comparing.specs.Compares.{hash, placeIn, tagIn, sameBase}
+use Rattle.comparing.specs.Compares.{placeIn, tagIn, sameBase}
 use Rattle.chains.specs.declared.Want.{Want}
 use Rattle.chains.specs.declared.Want.the-variants.{Named, Based, Runtime}
-use Rattle.chains.specs.Chains.{room, nameAt, numberAt, numberOf, wordAt, linkAt, bucketBy, bucketOf, headOf, nextOf, hasWanted, isOther, hasNamed, isWanted, isNumbered}
+use Rattle.chains.specs.Chains.{room, nameAt, numberAt, wordAt, linkAt, bucketOf, headOf, nextOf, hasWanted, isOther, hasNamed, isWanted}
 use Rattle.chains.specs.Chains.{mayBe, mayHave, seekFrom, seek}
 
-module _ (words : List ℕ) (h n : ℕ) (e : n ≡ room words) where
-  pub bucket-none : n ≡ 0 → 0 ≡ bucketBy words h
-  unfolding bucketBy
-  bucket-none z = rw (eq-eqb (room words) 0 (sym e ∙ z))
+-- the bucket of a number
+module _ (words : List ℕ) (number n : ℕ) (e : n ≡ room words) where
+  pub bucket-fits : number % 65536 * n < 2 ^ 64
+  bucket-fits = let m : number % 65536 * n ≤ 65536 * n = mul-le-mul-right n (omega arith) in omega arith
 
-  pub bucket-some : (n ≡ 0 → ⊥) → h / 65536 % n ≡ bucketBy words h
-  unfolding bucketBy
-  bucket-some z = rw (e, ne-eqb (room words) 0 (λ y. z (e ∙ y)))
+  pub bucket-is : number % 65536 * n / 65536 ≡ bucketOf words number
+  unfolding bucketOf
+  bucket-is = rw e
 
--- a name's bucket, by its hash
-pub bucket-is : (op : Shortening) (words : List ℕ) (name : Bytes) (h r : ℕ) → h ≡ hash op name → r ≡ bucketBy words h → r ≡ bucketOf op words name
-unfolding bucketBy bucketOf
-bucket-is op words name h r e f = f ∙ rw e
+-- it is one of as many as there is room for
+pub bucket-inside : (words : List ℕ) (number : ℕ) → 0 < room words → bucketOf words number < room words
+unfolding bucketOf
+bucket-inside words number o =
+    let n = room words in
+    let m : (number % 65536 + 1) * n ≤ 65536 * n = mul-le-mul-right n (omega arith) in
+    let d : (number % 65536 + 1) * n ≡ number % 65536 * n + n = add-mul (number % 65536) 1 n ∙ rw (one-mul n) in
+    omega arith
 
 module _ (words : List ℕ) (b n : ℕ) (e : n ≡ room words) where
   pub head-some : b < n → (w : ℕ) → (w ≡ getD words (4 * b + 3) 0) × (w < 2 ^ 32) → (w / 65536 ≡ headOf words b) × (w / 65536 < 65536)
@@ -116,8 +120,8 @@ module _ (s : Scope) where
   other-not Runtime w e = cc
 
   pub wanted-passed : (words : List ℕ) (name : Bytes) (number : ℕ) (want : Want) (i w : ℕ) (t : Bool) → w ≡ wordAt words i → t ≡ isOther want w → t ≡ true
-      → false ≡ isNumbered s words name number want i
-  unfolding isNumbered hasNamed
+      → false ≡ isWanted s words name number want i
+  unfolding isWanted hasNamed
   wanted-passed words name number want i w t h e y =
       rw (← h, other-not want w (sym e ∙ y), and-false, and-false (eqb (numberAt words i) number))
 
@@ -142,8 +146,8 @@ module _ (s : Scope) where
 
   -- a pair by its first three words
   module _ (words : List ℕ) (name : Bytes) (n : ℕ) (want : Want) (i v : ℕ) (a : v ≡ getD words (4 * i) 0) where
-    pub wanted-number : (v / 65536 ≡ n → ⊥) → false ≡ isNumbered s words name n want i
-    unfolding isNumbered
+    pub wanted-number : (v / 65536 ≡ n → ⊥) → false ≡ isWanted s words name n want i
+    unfolding isWanted
     wanted-number d = rw (← a, ne-eqb (v / 65536) n d)
 
     module _ (q : v / 65536 ≡ n) (len : ℕ) (own : Bytes) (t : Bool) (l : len ≡ getD words (4 * i + 1) 0)
@@ -151,23 +155,17 @@ module _ (s : Scope) where
       named : t ≡ operationOf (s .op) .sameName (nameAt (s .card) words i) name
       named = f ∙ ap (λ (x : Bytes). operationOf (s .op) .sameName x name) (e ∙ rw (a, l))
 
-      numbered : isNumbered s words name n want i ≡ hasNamed s words name want i
-      unfolding isNumbered
+      numbered : isWanted s words name n want i ≡ hasNamed s words name want i
+      unfolding isWanted
       numbered = rw (eq-eqb (numberAt words i) n (ap (λ (x : ℕ). x / 65536) (sym a) ∙ q))
 
-      pub wanted-other : not t ≡ true → false ≡ isNumbered s words name n want i
+      pub wanted-other : not t ≡ true → false ≡ isWanted s words name n want i
       unfolding hasNamed
       wanted-other d = rw (numbered, ← named, not-true t d)
 
-      pub wanted-same : not t ≡ false → (w : ℕ) (r : Bool) → w ≡ wordAt words i → r ≡ hasWanted s want w → r ≡ isNumbered s words name n want i
+      pub wanted-same : not t ≡ false → (w : ℕ) (r : Bool) → w ≡ wordAt words i → r ≡ hasWanted s want w → r ≡ isWanted s words name n want i
       unfolding hasNamed
       wanted-same d w r h g = g ∙ rw (numbered, ← named, not-false t d, h)
-
-  -- by the name's own number
-  pub seek-is : (words : List ℕ) (name : Bytes) (h : ℕ) (want : Want) (from r : ℕ) → h ≡ hash (s .op) name
-      → r ≡ seek (isNumbered s words name (h % 65536) want) words from → r ≡ seek (isWanted s words name want) words from
-  unfolding isNumbered isWanted
-  seek-is words name h want from r m e = e ∙ rw m
 
 -- a pair that a word leaves open, or passes
 module _ (words : List ℕ) (field number i w : ℕ) (a : w ≡ getD words (4 * i + field) 0) where
@@ -215,7 +213,7 @@ unfolding mayBe
 may-false words field number i e = none-of (eqb (getD words (4 * i + field) 0 / 65536) number) (eqb (getD words (4 * i + field) 0 % 65536) 0) e
 
 module _ (s : Scope) (words : List ℕ) (name : Bytes) (number i : ℕ) where
-  number-not : (want : Want) → mayBe words 0 number i ≡ false → isNumbered s words name number want i ≡ false
+  number-not : (want : Want) → mayBe words 0 number i ≡ false → isWanted s words name number want i ≡ false
   number-not want e =
       let k : 4 * i + 0 ≡ 4 * i = omega arith in
       sym (wanted-number s words name number want i (getD words (4 * i + 0) 0) (ap (λ (j : ℕ). getD words j 0) k)
@@ -225,7 +223,7 @@ module _ (s : Scope) (words : List ℕ) (name : Bytes) (number i : ℕ) where
   unfolding isOther
   other v z h = let d = may-false words 2 (tagIn v) i h in rw (d .1, z, d .0)
 
-  pub may-wanted : (want : Want) → mayHave words number want i ≡ false → isNumbered s words name number want i ≡ false
+  pub may-wanted : (want : Want) → mayHave words number want i ≡ false → isWanted s words name number want i ≡ false
   unfolding mayHave
   may-wanted Named e = number-not Named e
   may-wanted (Based v) e =

@@ -1,4 +1,4 @@
--- Pairs in work words, four to a pair, and chains of those whose names have the same hash. Assumes nothing: these are definitions.
+-- Pairs in work words, four to a pair, and chains of those whose names have like numbers. Assumes nothing: these are definitions.
 use mathlib.Core.List.{List}
 use mathlib.Core.Bool.{Bool, true, false, not, _&&_, _||_, cond}
 use Prim.Native.Nat.{ℕ, zero, suc, _+_, _-_, _*_, _/_, _%_, min}
@@ -7,10 +7,9 @@ use lib.Dec.{eqb, ltb}
 use Rattle.wire.specs.Numbers.{Bytes, sameBytes}
 use Rattle.records.specs.Record.{encode, recordAt}
 use Rattle.rast.specs.Path.{«dafny_runtime»}
-use Rattle.operation.specs.declared.Shortening.{Shortening}
 use Rattle.operation.specs.Operations.{operationOf}
 use Rattle.prefix.specs.Prefix.{Scope}
-use Rattle.comparing.specs.Compares.{hash, placeIn, tagIn, sameBase}
+use Rattle.comparing.specs.Compares.{placeIn, tagIn, sameBase}
 use Rattle.chains.specs.declared.Want.{Want}
 use Rattle.chains.specs.declared.Want.the-variants.{Named, Based, Runtime}
 
@@ -34,17 +33,11 @@ linkAt words i = getD words (4 * i + 3) 0 % 65536
 abbrev pub headAt : List ℕ → ℕ → ℕ
 headAt words i = getD words (4 * i + 3) 0 / 65536
 
--- the number of a name: the lower half of its hash
-abbrev pub numberOf : Shortening → Bytes → ℕ
-numberOf op name = hash op name % 65536
+-- the bucket of names that have a number, as far among the buckets as the number is among those of a half word
+unfoldable pub bucketOf : List ℕ → ℕ → ℕ
+bucketOf words number = number % 65536 * room words / 65536
 
--- the bucket that a hash says
-unfoldable pub bucketBy : List ℕ → ℕ → ℕ
-bucketBy words h = cond (eqb (room words) 0) 0 (h / 65536 % room words)
-
--- the bucket of a name, by the upper half of its hash, a bucket's newest pair, and the pair after pair g, by their numbers from 1 on
-unfoldable pub bucketOf : Shortening → List ℕ → Bytes → ℕ
-bucketOf op words name = cond (eqb (room words) 0) 0 (hash op name / 65536 % room words)
+-- a bucket's newest pair, and the pair after pair g, by their numbers from 1 on
 
 unfoldable pub headOf : List ℕ → ℕ → ℕ
 headOf words b = cond (ltb b (room words)) (headAt words b) 0
@@ -69,13 +62,9 @@ module _ (s : Scope) where
   unfoldable pub hasNamed : List ℕ → Bytes → Want → ℕ → Bool
   hasNamed words name want i = operationOf (s .op) .sameName (nameAt (s .card) words i) name && hasWanted want (wordAt words i)
 
-  -- the same with the numbers compared first: names with different numbers are different
-  unfoldable pub isWanted : List ℕ → Bytes → Want → ℕ → Bool
-  isWanted words name want i = eqb (numberAt words i) (numberOf (s .op) name) && hasNamed words name want i
-
-  -- the same by a number that is taken for the name's
-  unfoldable pub isNumbered : List ℕ → Bytes → ℕ → Want → ℕ → Bool
-  isNumbered words name number want i = eqb (numberAt words i) number && hasNamed words name want i
+  -- the same with the numbers compared first, the pair's with one that is taken for the name's: names with different numbers are different
+  unfoldable pub isWanted : List ℕ → Bytes → ℕ → Want → ℕ → Bool
+  isWanted words name number want i = eqb (numberAt words i) number && hasNamed words name want i
 
 -- whether a word of a pair leaves open that the pair is sought: the number above the place is this one, or there is no place
 unfoldable pub mayBe : List ℕ → ℕ → ℕ → ℕ → Bool

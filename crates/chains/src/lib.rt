@@ -1,12 +1,10 @@
 // Pairs in work words, four to a pair: where the name stands in the card, how long it is, the base, and a link. Pairs are numbered from 1; 0 is none.
-// Above a name's place stands the lower half of its hash, which spares most comparisons of names. Pairs whose names are in the same bucket, by the upper half
-// modulo the room, are chained, the newest first: the lower half of a pair's fourth word is the
-// number of the next one, the upper half that of the first pair of the bucket that has this word's number.
-use operation::Shortening;
+// Above a name's place stands the number of the name, which spares most comparisons of names. Pairs whose names are in the same bucket, by their numbers, are
+// chained, the newest first: the lower half of a pair's fourth word is the number of the next one, the upper half that of the first pair of the bucket that has
+// this word's number.
 ghost use mathlib.Core.Path.{_≡_};
 ghost use Prim.Native.Nat.{_-_, _<_, _≤_};
-ghost use Rattle.prefix.specs.Prefix.{scope};
-ghost use Rattle.chains.specs.Chains.{room as Chains·room, bucketBy, bucketOf, headOf, nextOf};
+ghost use Rattle.chains.specs.Chains.{room as Chains·room, bucketOf, headOf, nextOf};
 
 // How many pairs words have room for: the number of a pair fits a half word.
 pub fn room(work: &[u32]) -> usize
@@ -19,21 +17,11 @@ pub fn room(work: &[u32]) -> usize
     n
 }
 
-// The bucket of a name, by its hash.
-pub fn bucket_by(work: &[u32], hash: usize) -> usize
-    ensures { λ r. ⌜ r ≡ bucketBy (now (work .entry)) hash ⌝ }
+// The bucket of names that have a number. No division: it would take as long as the rest of a lookup's arithmetic.
+pub fn bucket(work: &[u32], number: usize) -> usize
+    ensures { λ r. ⌜ r ≡ bucketOf (now (work .entry)) number ⌝ }
 {
-    let n = room(work);
-    if n == 0 {
-        return 0;
-    }
-    hash / 65536 % n
-}
-
-pub fn bucket(op: Shortening, work: &[u32], name: &[u8]) -> usize
-    ensures { λ r. ⌜ r ≡ bucketOf op (now (work .entry)) (now (name .entry)) ⌝ }
-{
-    bucket_by(work, comparing::hash(op, name))
+    number % 65536 * room(work) / 65536
 }
 
 // The newest pair of a bucket.

@@ -18,7 +18,7 @@ use Rattle.rast.proofs.Names.{turned}
 use Rattle.operation.specs.declared.Shortening.{Shortening}
 use Rattle.operation.specs.Operations.{operationOf, samePaths}
 use Rattle.prefix.specs.Prefix.{Scope, prefixIn}
-use Rattle.comparing.specs.Compares.{placeIn, baseAt, sameBase}
+use Rattle.comparing.specs.Compares.{numberOf, placeIn, baseAt, sameBase}
 use Rattle.comparing.proofs.Operations.{path-bytes, paths-of}
 use Rattle.chains.specs.declared.Want.{Want}
 use Rattle.chains.specs.declared.Want.the-variants.{Named, Based, Runtime}
@@ -28,7 +28,7 @@ use Rattle.pairs.specs.Choice.{choice}
 use Rattle.pairs.proofs.Bytes.{choice-none}
 use Rattle.adding.specs.Adds.{Table, table}
 use Rattle.adding.specs.Holds.{latest, pairsIn, Chained}
-use Rattle.adding.proofs.Chain.{latest-most, latest-true, latest-none, named-bucket, seek-head, seek-after}
+use Rattle.adding.proofs.Chain.{latest-most, latest-true, latest-none, named-number, seek-head, seek-after}
 use Rattle.choosing.specs.Chooses.{chosenOfSeveral, chosenPair}
 use Rattle.choosing.specs.Picks.{Picks}
 use Rattle.choosing.proofs.Tests.{seek-inside, several-prefix, several-runtime, chosen-none, chosen-only, chosen-several}
@@ -87,18 +87,21 @@ module _ (s : Scope) (words : List ℕ) (n : ℕ) (r : n ≤ room words) (c : Ch
     abbrev Choice : Option Bytes
     Choice = choice (s .op) (prefixIn s) (Bases s words name n)
 
+    abbrev Number : ℕ
+    Number = numberOf (s .op) name
+
     abbrev Head : ℕ
-    Head = headOf words (bucketOf (s .op) words name)
+    Head = headOf words (bucketOf words Number)
 
     -- what is found, in a table with no room too
-    from-head : (want : Want) → latest (Test want) n ≡ seek (isWanted s words name want) words Head
+    from-head : (want : Want) → latest (Test want) n ≡ seek (isWanted s words name Number want) words Head
     from-head want =
         by-test (eqb (room words) 0)
-        (λ z. let i = seek-inside (isWanted s words name want) words Head in
+        (λ z. let i = seek-inside (isWanted s words name Number want) words Head in
         let m = latest-most (Test want) n in
         let e = eqb-true (room words) 0 z in
         omega arith)
-        (λ z. let d = eqb-false (room words) 0 z in sym (seek-head s words n r c name want (omega (arith, d))))
+        (λ z. let d = eqb-false (room words) 0 z in sym (seek-head s words n r c name Number refl want (omega (arith, d))))
 
     wanted : (want : Want) (i : ℕ) → Test want i ≡ true
         → (operationOf (s .op) .sameName (nameAt (s .card) words i) name ≡ true) × (hasWanted s want (wordAt words i) ≡ true)
@@ -122,10 +125,10 @@ module _ (s : Scope) (words : List ℕ) (n : ℕ) (r : n ≤ room words) (c : Ch
     one-choice i e f = rw (bases-some s words name n i e, bases-none s words name i f) (choice-one (s .op) (prefixIn s) (Base s words i))
 
     -- the pair after the newest
-    after : (i : ℕ) → latest (Test Named) n ≡ suc i → latest (Test Named) i ≡ seek (isWanted s words name Named) words (nextOf words (suc i))
+    after : (i : ℕ) → latest (Test Named) n ≡ suc i → latest (Test Named) i ≡ seek (isWanted s words name Number Named) words (nextOf words (suc i))
     after i e =
         let l = latest-is (Test Named) n i e in
-        sym (seek-after s words n r c name Named i (l .0) (named-bucket s words name Named i (l .1)))
+        sym (seek-after s words n r c name Number refl Named i (l .0) (named-number s words n r c name Named i (l .0) (l .1)))
 
     -- the prefix and dafny_runtime among a name's bases
     prefix-test : (i : ℕ) → Test (Based 0) i ≡ (IsNamed s words name i && samePaths (s .op) (prefixIn s) (Base s words i))
@@ -184,32 +187,32 @@ module _ (s : Scope) (words : List ℕ) (n : ℕ) (r : n ≤ room words) (c : Ch
             let l = latest-is (Test Runtime) n q y in
             others ∙ rw (y, lt-ltb 0 (suc q) (omega arith), runtime-base z q (l .0) (l .1))
 
-      chosen-more : chosenOfSeveral s words name Head ≡ chosenPair s words name
+      chosen-more : chosenOfSeveral s words name Number Head ≡ chosenPair s words name Number
       chosen-more =
-          chosen-several s words name _ Head (suc i) refl refl (sym e ∙ from-head Named) (λ z. omega arith)
+          chosen-several s words name Number _ Head (suc i) refl refl (sym e ∙ from-head Named) (λ z. omega arith)
           _ (suc j) refl (sym f ∙ after i e) (λ z. omega arith) _ refl
 
-      pick-several : Pick Choice (chosenPair s words name)
+      pick-several : Pick Choice (chosenPair s words name Number)
       pick-several =
           subst (λ (g : ℕ). Pick Choice g) chosen-more
           (by-number (latest (Test (Based 0)) n)
           (λ z. subst (λ (g : ℕ). Pick Choice g)
-          (several-runtime s words name Head 0 (sym z ∙ from-head (Based 0)) (omega arith) (latest (Test Runtime) n) (from-head Runtime))
+          (several-runtime s words name Number Head 0 (sym z ∙ from-head (Based 0)) (omega arith) (latest (Test Runtime) n) (from-head Runtime))
           (by-number (latest (Test Runtime) n)
           (λ y. rw y (pick-none (runtime-none z y)))
           (λ q y. rw y (pick-pair Choice Runtime q y (runtime-choice z q y)))))
           (λ p q. subst (λ (g : ℕ). Pick Choice g)
-          (several-prefix s words name Head (suc p) (sym q ∙ from-head (Based 0)) (omega arith))
+          (several-prefix s words name Number Head (suc p) (sym q ∙ from-head (Based 0)) (omega arith))
           (pick-pair Choice (Based 0) p q (prefix-choice p q))))
 
-    pub chosen-picks : Pick Choice (chosenPair s words name)
+    pub chosen-picks : Pick Choice (chosenPair s words name Number)
     chosen-picks =
         by-number (latest (Test Named) n)
         (λ e. subst (λ (g : ℕ). Pick Choice g)
-        (chosen-none s words name _ Head (latest (Test Named) n) refl refl (from-head Named) e)
+        (chosen-none s words name Number _ Head (latest (Test Named) n) refl refl (from-head Named) e)
         (pick-none (no-choice e)))
         (λ i e. by-number (latest (Test Named) i)
         (λ f. subst (λ (g : ℕ). Pick Choice g)
-        (chosen-only s words name _ Head (suc i) refl refl (sym e ∙ from-head Named) (λ z. omega arith) _ (latest (Test Named) i) refl (after i e) f)
+        (chosen-only s words name Number _ Head (suc i) refl refl (sym e ∙ from-head Named) (λ z. omega arith) _ (latest (Test Named) i) refl (after i e) f)
         (pick-pair Choice Named i e (one-choice i e f)))
         (λ j f. pick-several i j e f))

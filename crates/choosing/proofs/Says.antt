@@ -13,7 +13,7 @@ use Rattle.rast.specs.Path.{whether}
 use Rattle.rast.proofs.Tests.{by-test}
 use Rattle.operation.specs.Operations.{samePaths}
 use Rattle.prefix.specs.Prefix.{Scope, prefixIn}
-use Rattle.comparing.specs.Compares.{placeIn, baseAt, sameBase}
+use Rattle.comparing.specs.Compares.{numberOf, placeIn, baseAt, sameBase}
 use Rattle.chains.specs.declared.Want.the-variants.{Named}
 use Rattle.chains.specs.Chains.{room, nameAt, wordAt, hasNamed}
 use Rattle.pairs.specs.Stored.{Stored, stored}
@@ -54,11 +54,17 @@ module _ (s : Scope) (words : List ℕ) (n : ℕ) (r : n ≤ room words) (c : Ch
     abbrev Answer : ℕ → ℕ
     Answer g = cond (eqb g 0 || sameBase s (wordAt words (g - 1)) 0) 0 g
 
-    use-words : usePair s words (suc i) ≡ cond (ltb 0 Ahead) 0 (Answer (chosenPair s words Own))
+    use-words : usePair s words (suc i) ≡ cond (ltb 0 Ahead) 0 (Answer (chosenPair s words Own (numberOf (s .op) Own)))
     unfolding usePair
     use-words =
         let k : suc i - 1 ≡ i = omega arith in
-        rw (ne-eqb (suc i) 0 (λ z. omega arith), le-ltb (room words) (suc i) (omega arith), k, seek-after s words n r c Own Named i l refl)
+        rw (
+          ne-eqb (suc i) 0 (λ z. omega arith),
+          le-ltb (room words) (suc i) (omega arith),
+          k,
+          c .numbers i l,
+          seek-after s words n r c Own (numberOf (s .op) Own) refl Named i l (c .numbers i l),
+        )
 
     -- where no pair ahead has the name
     use-chosen : (g : ℕ) → Pick Own Choice g → ltb 0 Ahead ≡ false → Pick Own Use (Answer g)
@@ -78,7 +84,7 @@ module _ (s : Scope) (words : List ℕ) (n : ℕ) (r : n ≤ room words) (c : Ch
         rw use-words
         (by-test (ltb 0 Ahead)
         (λ t. rw t (pick-none (use-list ∙ rw t)))
-        (λ t. rw t (use-chosen (chosenPair s words Own) (chosen-picks s words n r c Own) t)))
+        (λ t. rw t (use-chosen (chosenPair s words Own (numberOf (s .op) Own)) (chosen-picks s words n r c Own) t)))
 
     one-use : (others : List Stored) (g : ℕ) → Pick Own Use g → cond (eqb g 0) others (stored Own (Base s words (g - 1)) ∷ others)
         ≡ whether (pairOf All i) others (λ p. whether Use others (λ b. stored (p .name) b ∷ others))
@@ -104,9 +110,9 @@ module _ (s : Scope) (t : Table) (ps : List Stored) (h : Has s t ps) (fits : len
   count-room = let e = count-is in omega arith
 
   -- THE LAW: the pair chosen for a name has the base chosen for it
-  pub chosen-has : (name : Bytes) → Picks s t ps name (choice (s .op) (prefixIn s) (basesNamed (s .op) ps name)) (chosenPair s (t .words) name)
+  pub chosen-has : (name : Bytes) → Picks s t ps name (choice (s .op) (prefixIn s) (basesNamed (s .op) ps name)) (chosenPair s (t .words) name (numberOf (s .op) name))
   chosen-has name =
-      subst (λ (q : List Stored). Picks s t q name (choice (s .op) (prefixIn s) (basesNamed (s .op) q name)) (chosenPair s (t .words) name)) (h .pairs fits)
+      subst (λ (q : List Stored). Picks s t q name (choice (s .op) (prefixIn s) (basesNamed (s .op) q name)) (chosenPair s (t .words) name (numberOf (s .op) name))) (h .pairs fits)
       (chosen-picks s (t .words) (t .count) count-room (h .chained fits) name)
 
   -- and the pair of a pair's use the base of the use

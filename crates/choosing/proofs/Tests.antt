@@ -2,7 +2,7 @@
 use mathlib.Core.Path.{_≡_, refl, sym, ap, _∙_}
 use mathlib.Core.List.{List}
 use mathlib.Core.Bool.{Bool, true, false, _||_, cond}
-use Prim.Native.Nat.{ℕ, zero, suc, _+_, _-_, _*_, _%_, _<_, _≤_}
+use Prim.Native.Nat.{ℕ, zero, suc, _+_, _-_, _*_, _/_, _%_, _<_, _≤_}
 use native.Mathlib.Omega.{arith}
 use lib.ListN.{take, drop, getD}
 use lib.Dec.{eqb, ltb}
@@ -12,7 +12,7 @@ use Rattle.rast.proofs.Tests.{by-test}
 use Rattle.prefix.specs.Prefix.{Scope}
 use Rattle.comparing.specs.Compares.{sameBase}
 use Rattle.chains.specs.declared.Want.the-variants.{Named, Based, Runtime}
-use Rattle.chains.specs.Chains.{room, nameAt, wordAt, bucketOf, headOf, nextOf, isWanted, seekFrom, seek}
+use Rattle.chains.specs.Chains.{room, nameAt, numberAt, wordAt, bucketOf, headOf, nextOf, isWanted, seekFrom, seek}
 use Rattle.chains.proofs.Tests.{next-less}
 use Rattle.choosing.specs.Chooses.{chosenOfSeveral, chosenPair, usePair}
 
@@ -31,56 +31,56 @@ module _ (f : ℕ → Bool) (words : List ℕ) where
   unfolding seek
   seek-inside g = by-test (ltb (room words) g) (λ t. rw t (omega arith)) (λ t. rw t (from-inside g g (ltb-false (room words) g t)))
 
-module _ (s : Scope) (words : List ℕ) (name : Bytes) where
-  several-inside : (g : ℕ) → chosenOfSeveral s words name g ≤ room words
+module _ (s : Scope) (words : List ℕ) (name : Bytes) (number : ℕ) where
+  several-inside : (g : ℕ) → chosenOfSeveral s words name number g ≤ room words
   unfolding chosenOfSeveral
   several-inside g =
-      by-test (ltb 0 (seek (isWanted s words name (Based 0)) words g)) (λ t. rw t (seek-inside _ words g)) (λ t. rw t (seek-inside _ words g))
+      by-test (ltb 0 (seek (isWanted s words name number (Based 0)) words g)) (λ t. rw t (seek-inside _ words g)) (λ t. rw t (seek-inside _ words g))
 
-  chosen-inside : chosenPair s words name ≤ room words
+  chosen-inside : chosenPair s words name number ≤ room words
   unfolding chosenPair
   chosen-inside =
-      let first = headOf words (bucketOf (s .op) words name) in
-      let one = seek (isWanted s words name Named) words first in
+      let first = headOf words (bucketOf words number) in
+      let one = seek (isWanted s words name number Named) words first in
       by-test (eqb one 0) (λ t. rw t (omega arith))
-      (λ t. by-test (eqb (seek (isWanted s words name Named) words (nextOf words one)) 0) (λ u. rw (t, u) (seek-inside _ words first))
+      (λ t. by-test (eqb (seek (isWanted s words name number Named) words (nextOf words one)) 0) (λ u. rw (t, u) (seek-inside _ words first))
       (λ u. rw (t, u) (several-inside first)))
 
-  pub chosen-room : (c : ℕ) → c ≡ chosenPair s words name → c ≤ room words
+  pub chosen-room : (c : ℕ) → c ≡ chosenPair s words name number → c ≤ room words
   chosen-room c e = rw e chosen-inside
 
-  module _ (first p : ℕ) (e : p ≡ seek (isWanted s words name (Based 0)) words first) where
-    pub several-prefix : 0 < p → p ≡ chosenOfSeveral s words name first
+  module _ (first p : ℕ) (e : p ≡ seek (isWanted s words name number (Based 0)) words first) where
+    pub several-prefix : 0 < p → p ≡ chosenOfSeveral s words name number first
     unfolding chosenOfSeveral
     several-prefix h = rw (← e, lt-ltb 0 p h)
 
-    pub several-runtime : p ≤ 0 → (r : ℕ) → r ≡ seek (isWanted s words name Runtime) words first → r ≡ chosenOfSeveral s words name first
+    pub several-runtime : p ≤ 0 → (r : ℕ) → r ≡ seek (isWanted s words name number Runtime) words first → r ≡ chosenOfSeveral s words name number first
     unfolding chosenOfSeveral
     several-runtime h r f = f ∙ rw (← e, le-ltb 0 p h)
 
-  module _ (b first one : ℕ) (f : b ≡ bucketOf (s .op) words name) (g : first ≡ headOf words b)
-      (e : one ≡ seek (isWanted s words name Named) words first) where
-    head-is : headOf words (bucketOf (s .op) words name) ≡ first
+  module _ (b first one : ℕ) (f : b ≡ bucketOf words number) (g : first ≡ headOf words b)
+      (e : one ≡ seek (isWanted s words name number Named) words first) where
+    head-is : headOf words (bucketOf words number) ≡ first
     head-is = sym (g ∙ ap (headOf words) f)
 
-    pub chosen-none : one ≡ 0 → 0 ≡ chosenPair s words name
+    pub chosen-none : one ≡ 0 → 0 ≡ chosenPair s words name number
     unfolding chosenPair
     chosen-none z = rw (head-is, ← e, eq-eqb one 0 z)
 
-    module _ (z : one ≡ 0 → ⊥) (n two : ℕ) (h : n ≡ nextOf words one) (k : two ≡ seek (isWanted s words name Named) words n) where
-      two-is : seek (isWanted s words name Named) words (nextOf words one) ≡ two
+    module _ (z : one ≡ 0 → ⊥) (n two : ℕ) (h : n ≡ nextOf words one) (k : two ≡ seek (isWanted s words name number Named) words n) where
+      two-is : seek (isWanted s words name number Named) words (nextOf words one) ≡ two
       two-is = sym (k ∙ rw h)
 
-      pub chosen-only : two ≡ 0 → one ≡ chosenPair s words name
+      pub chosen-only : two ≡ 0 → one ≡ chosenPair s words name number
       unfolding chosenPair
       chosen-only y = rw (head-is, ← e, ne-eqb one 0 z, two-is, eq-eqb two 0 y)
 
-      pub chosen-several : (two ≡ 0 → ⊥) → (r : ℕ) → r ≡ chosenOfSeveral s words name first → r ≡ chosenPair s words name
+      pub chosen-several : (two ≡ 0 → ⊥) → (r : ℕ) → r ≡ chosenOfSeveral s words name number first → r ≡ chosenPair s words name number
       unfolding chosenPair
       chosen-several y r q = q ∙ rw (head-is, ← e, ne-eqb one 0 z, two-is, ne-eqb two 0 y)
 
     -- the newest of a name after which there is none is the only one
-    pub chosen-newest : (g : ℕ) → 0 < g → seek (isWanted s words name Named) words (nextOf words g) ≡ 0 → one ≡ g → g ≡ chosenPair s words name
+    pub chosen-newest : (g : ℕ) → 0 < g → seek (isWanted s words name number Named) words (nextOf words g) ≡ 0 → one ≡ g → g ≡ chosenPair s words name number
     chosen-newest g o k q = sym q ∙ chosen-only (λ z. omega arith) (nextOf words one) 0 refl (rw q (sym k)) refl
 
 module _ (s : Scope) (words : List ℕ) (g : ℕ) where
@@ -95,25 +95,28 @@ module _ (s : Scope) (words : List ℕ) (g : ℕ) where
 
     module _ (i : g ≤ n) (at len : ℕ) (name : Bytes) (a : at ≡ getD words (4 * (g - 1)) 0) (l : len ≡ getD words (4 * (g - 1) + 1) 0)
         (p : name ≡ take len (drop (at % 65536) (s .card))) (m ahead : ℕ) (h : m ≡ nextOf words g)
-        (k : ahead ≡ seek (isWanted s words name Named) words m) where
+        (k : ahead ≡ seek (isWanted s words name (at / 65536) Named) words m) where
       name-is : nameAt (s .card) words (g - 1) ≡ name
       name-is = sym (p ∙ rw (a, l))
 
+      number-is : numberAt words (g - 1) ≡ at / 65536
+      number-is = sym (ap (λ (x : ℕ). x / 65536) a)
+
       of-name : usePair s words g
-          ≡ cond (ltb 0 ahead) 0 (let c : ℕ = chosenPair s words name in cond (eqb c 0 || sameBase s (wordAt words (c - 1)) 0) 0 c)
+          ≡ cond (ltb 0 ahead) 0 (let c : ℕ = chosenPair s words name (at / 65536) in cond (eqb c 0 || sameBase s (wordAt words (c - 1)) 0) 0 c)
       unfolding usePair
       of-name =
-          let q : seek (isWanted s words name Named) words (nextOf words g) ≡ ahead = sym (k ∙ rw h) in
-          rw (ne-eqb g 0 z, le-ltb (room words) g (omega arith), name-is, q)
+          let q : seek (isWanted s words name (at / 65536) Named) words (nextOf words g) ≡ ahead = sym (k ∙ rw h) in
+          rw (ne-eqb g 0 z, le-ltb (room words) g (omega arith), name-is, number-is, q)
 
       -- none after pair g
-      pub none-after : ahead ≤ 0 → (0 < g) × (seek (isWanted s words name Named) words (nextOf words g) ≡ 0)
+      pub none-after : ahead ≤ 0 → (0 < g) × (seek (isWanted s words name (at / 65536) Named) words (nextOf words g) ≡ 0)
       none-after o = (omega (arith, z), rw (← h) (sym k ∙ (let y : ahead ≡ 0 = omega arith in y)))
 
       pub use-later : 0 < ahead → 0 ≡ usePair s words g
       use-later o = sym (of-name ∙ rw (lt-ltb 0 ahead o))
 
-      module _ (o : ahead ≤ 0) (c : ℕ) (f : c ≡ chosenPair s words name) where
+      module _ (o : ahead ≤ 0) (c : ℕ) (f : c ≡ chosenPair s words name (at / 65536)) where
         of-chosen : usePair s words g ≡ cond (eqb c 0 || sameBase s (wordAt words (c - 1)) 0) 0 c
         of-chosen = of-name ∙ rw (le-ltb 0 ahead o, ← f)
 

@@ -17,18 +17,30 @@ fn chosen_of_several(
     work: &[u32],
     first: usize,
     name: &[u8],
+    number: usize,
 ) -> usize
     ensures { λ r. ⌜ r ≡ chosenOfSeveral (scope op (now (card .entry)) (now (root .entry)) (now (chain .entry)))
-        (now (work .entry)) (now (name .entry)) first ⌝ }
+        (now (work .entry)) (now (name .entry)) number first ⌝ }
 {
-    let p = seeking::seek(op, card, root, chain, work, first, name, Want::Based(0));
+    let want = Want::Based(0);
+    let p = seeking::seek(op, card, root, chain, work, first, name, number, want);
     if 0 < p {
         return p;
     }
-    seeking::seek(op, card, root, chain, work, first, name, Want::Runtime)
+    seeking::seek(
+        op,
+        card,
+        root,
+        chain,
+        work,
+        first,
+        name,
+        number,
+        Want::Runtime,
+    )
 }
 
-// The pair that has the base chosen for a name: its only one, else as above.
+// The pair that has the base chosen for a name, by its number: its only one, else as above.
 pub fn chosen(
     op: Shortening,
     card: &[u8],
@@ -36,23 +48,23 @@ pub fn chosen(
     chain: &[usize],
     work: &[u32],
     name: &[u8],
+    number: usize,
 ) -> usize
-    ensures { λ r. ⌜ r ≡ chosenPair (scope op (now (card .entry)) (now (root .entry)) (now (chain .entry))) (now (work .entry)) (now (name .entry)) ⌝ }
+    ensures { λ r. ⌜ r ≡ chosenPair (scope op (now (card .entry)) (now (root .entry)) (now (chain .entry)))
+        (now (work .entry)) (now (name .entry)) number ⌝ }
 {
-    let hash = comparing::hash(op, name);
-    let number = hash % 65536;
     let want = Want::Named;
-    let first = chains::head(work, chains::bucket_by(work, hash));
-    let one = seeking::seek_by(op, card, root, chain, work, first, name, number, want);
+    let first = chains::head(work, chains::bucket(work, number));
+    let one = seeking::seek(op, card, root, chain, work, first, name, number, want);
     if one == 0 {
         return 0;
     }
     let after = chains::next(work, one);
-    let two = seeking::seek_by(op, card, root, chain, work, after, name, number, want);
+    let two = seeking::seek(op, card, root, chain, work, after, name, number, want);
     if two == 0 {
         return one;
     }
-    chosen_of_several(op, card, root, chain, work, first, name)
+    chosen_of_several(op, card, root, chain, work, first, name, number)
 }
 
 // The same where no pair of the name comes after pair g: if pair g is the newest of the name it is the only one.
@@ -63,20 +75,20 @@ fn chosen_after(
     chain: &[usize],
     work: &[u32],
     name: &[u8],
+    number: usize,
     g: usize,
 ) -> usize
     requires { ⌜ (0 < g)
-        × (seek (isWanted (scope op (now card) (now root) (now chain)) (now work) (now name) Named) (now work) (nextOf (now work) g) ≡ 0) ⌝ }
-    ensures { λ r. ⌜ r ≡ chosenPair (scope op (now (card .entry)) (now (root .entry)) (now (chain .entry))) (now (work .entry)) (now (name .entry)) ⌝ }
+        × (seek (isWanted (scope op (now card) (now root) (now chain)) (now work) (now name) number Named) (now work) (nextOf (now work) g) ≡ 0) ⌝ }
+    ensures { λ r. ⌜ r ≡ chosenPair (scope op (now (card .entry)) (now (root .entry)) (now (chain .entry)))
+        (now (work .entry)) (now (name .entry)) number ⌝ }
 {
-    let hash = comparing::hash(op, name);
-    let number = hash % 65536;
     let want = Want::Named;
-    let first = chains::head(work, chains::bucket_by(work, hash));
-    if seeking::seek_by(op, card, root, chain, work, first, name, number, want) == g {
+    let first = chains::head(work, chains::bucket(work, number));
+    if seeking::seek(op, card, root, chain, work, first, name, number, want) == g {
         return g;
     }
-    chosen(op, card, root, chain, work, name)
+    chosen(op, card, root, chain, work, name, number)
 }
 
 // The pair that has the base of the use that pair g brings: the one chosen for its name, unless a pair ahead has the name, or the base is the prefix.
@@ -97,12 +109,26 @@ pub fn use_of(
         return 0;
     }
     let k = 4 * (g - 1);
-    let name = wire::part(card, wire::word(work[k]) % 65536, wire::word(work[k + 1]));
+    let at = wire::word(work[k]);
+    let name = wire::part(card, at % 65536, wire::word(work[k + 1]));
+    let number = at / 65536;
     let after = chains::next(work, g);
-    if 0 < seeking::seek(op, card, root, chain, work, after, name, Want::Named) {
+    if 0
+        < seeking::seek(
+            op,
+            card,
+            root,
+            chain,
+            work,
+            after,
+            name,
+            number,
+            Want::Named,
+        )
+    {
         return 0;
     }
-    let c = chosen_after(op, card, root, chain, work, name, g);
+    let c = chosen_after(op, card, root, chain, work, name, number, g);
     if c == 0 {
         return 0;
     }

@@ -12,9 +12,9 @@ use Rattle.rast.proofs.Names.{turned}
 use Rattle.operation.specs.declared.Shortening.{Shortening}
 use Rattle.operation.specs.Operations.{samePaths}
 use Rattle.prefix.specs.Prefix.{Scope, prefixIn}
-use Rattle.comparing.specs.Compares.{hash, placeIn, baseWord, baseAt, sameBase}
+use Rattle.comparing.specs.Compares.{numberOf, placeIn, baseWord, baseAt, sameBase}
 use Rattle.comparing.proofs.Operations.{path-bytes, paths-of}
-use Rattle.comparing.proofs.Hashes.{hash-small}
+use Rattle.comparing.proofs.Hashes.{number-small}
 
 module _ (s : Scope) (v w : ℕ) where
   pub base-both-prefix : v % 65536 ≡ 0 → w % 65536 ≡ 0 → true ≡ sameBase s v w
@@ -52,25 +52,25 @@ module _ (s : Scope) (place : ℕ) (x : Bytes) (r : Bool) where
   unfolding baseAt
   is-base-path a y e f = f ∙ ap (λ (z : Bytes). samePaths (s .op) z x) e ∙ rw (ne-eqb place 0 a)
 
--- a base as a word: its place, and where it is a path its hash
+-- a base as a word: its place, and where it is a path its number
 module _ (op : Shortening) (card : Bytes) where
   pub word-prefix : (p : ℕ) → p ≡ 0 → (0 ≡ baseWord op card p) × (0 < 2 ^ 32)
   unfolding baseWord
   word-prefix p z = rw z (refl, omega arith)
 
-  pub word-path : (p q h : ℕ) (x : Bytes) → p < 65536 → (p ≡ 0 → ⊥) → q ≡ p → x ≡ recordAt card q → (h ≡ hash op x) × (h < 2 ^ 32)
-      → (q + 65536 * (h / 65536) ≡ baseWord op card p) × (q + 65536 * (h / 65536) < 2 ^ 32)
+  pub word-path : (p q h : ℕ) (x : Bytes) → p < 65536 → (p ≡ 0 → ⊥) → q ≡ p → x ≡ recordAt card q → (h ≡ numberOf op x) × (h < 65536)
+      → (q + 65536 * h ≡ baseWord op card p) × (q + 65536 * h < 2 ^ 32)
   unfolding baseWord
   word-path p q h x l n c e f = rw (ne-eqb p 0 n) (c', omega (arith, f .1))
     where
-      c' : q + 65536 * (h / 65536) ≡ p + 65536 * (hash op (recordAt card p) / 65536)
+      c' : q + 65536 * h ≡ p + 65536 * numberOf op (recordAt card p)
       c' = rw (f .0, e, c)
 
   pub word-place : (p : ℕ) → p < 65536 → placeIn (baseWord op card p) ≡ p
   unfolding baseWord
   word-place p l =
       by-test (eqb p 0) (λ t. rw t (let e = eq-of p t in omega arith))
-      (λ t. rw t (let h = hash-small op (recordAt card p) in omega arith))
+      (λ t. rw t (let h = number-small op (recordAt card p) in omega arith))
     where
       eq-of : (p : ℕ) → eqb p 0 ≡ true → p ≡ 0
       eq-of p t = borrow.Author.Tests.eqb-true p 0 t

@@ -6,15 +6,14 @@ ghost use Prim.Native.Nat.{_<_, _^_};
 ghost use lib.ListN.{drop};
 ghost use Rattle.operation.specs.Operations.{operationOf, samePaths};
 ghost use Rattle.prefix.specs.Prefix.{scope};
-ghost use Rattle.comparing.specs.Compares.{hashRest, hashFrom, hash as Compares·hash, baseWord, baseAt, sameBase};
+ghost use Rattle.comparing.specs.Compares.{hashFew, hashBytes, numberOf, baseWord, baseAt, sameBase};
 
-// The number of the bytes from a place on, one a turn, from a number on.
-fn hash_rest(s: &[u8], from: usize, start: usize) -> usize
-    requires { ⌜ start < 2 ^ 32 ⌝ }
-    ensures { λ r. ⌜ (r ≡ hashRest start (drop from (now (s .entry)))) × (r < 2 ^ 32) ⌝ }
+// The number of a few bytes, one a turn.
+fn hash_few(s: &[u8]) -> usize
+    ensures { λ r. ⌜ (r ≡ hashFew 0 (now (s .entry))) × (r < 2 ^ 32) ⌝ }
 {
-    let mut h = start;
-    let mut i = from;
+    let mut h: usize = 0;
+    let mut i = 0;
     while i < s.len() {
         h = (h * 1540483477 + wire::wide(s[i])) % 4294967296;
         i += 1;
@@ -22,24 +21,29 @@ fn hash_rest(s: &[u8], from: usize, start: usize) -> usize
     h
 }
 
-// The number of bytes, four a turn: they are one load.
+// The number of bytes, four a turn: they are one load. The last four end with the bytes: how many are left over is not asked.
 fn hash_bytes(s: &[u8]) -> usize
-    ensures { λ r. ⌜ (r ≡ hashFrom 0 (now (s .entry))) × (r < 2 ^ 32) ⌝ }
+    ensures { λ r. ⌜ (r ≡ hashBytes (now (s .entry))) × (r < 2 ^ 32) ⌝ }
 {
-    let mut h: usize = 0;
-    let mut i = 0;
-    while 4 <= s.len() - i {
-        h = (h * 1540483477 + wire::four(s, i)) % 4294967296;
-        i += 4;
+    let n = s.len();
+    if n < 4 {
+        return hash_few(s);
     }
-    hash_rest(s, i, h)
+    let last = n - 4;
+    let mut h: usize = 0;
+    let mut at = 0;
+    while at < last {
+        h = (h * 1540483477 + wire::four(s, at)) % 4294967296;
+        at += 4;
+    }
+    (h * 1540483477 + wire::four(s, last)) % 4294967296
 }
 
 // The same for names that are the same.
-pub fn hash(op: Shortening, name: &[u8]) -> usize
-    ensures { λ r. ⌜ (r ≡ Compares·hash op (now (name .entry))) × (r < 2 ^ 32) ⌝ }
+pub fn number(op: Shortening, name: &[u8]) -> usize
+    ensures { λ r. ⌜ (r ≡ numberOf op (now (name .entry))) × (r < 65536) ⌝ }
 {
-    hash_bytes(name) * 1831565813 % 4294967296
+    hash_bytes(name) * 1831565813 % 4294967296 / 65536
 }
 
 pub fn same_name(op: Shortening, a: &[u8], b: &[u8]) -> bool
@@ -63,7 +67,7 @@ pub fn base_word(op: Shortening, card: &[u8], place: u16) -> usize
         return 0;
     }
     let at = place as usize;
-    at + 65536 * (hash(op, reader::record_at(card, at)) / 65536)
+    at + 65536 * number(op, reader::record_at(card, at))
 }
 
 // Whether a path is the base at a place.

@@ -24,6 +24,7 @@ use Rattle.pairs.proofs.Bytes.{bytesIf, CanonicalIf, bases-same}
 use Rattle.pairs.proofs.Says.{Declares, chosen-says, uses-says, final-canonical}
 use Rattle.adding.specs.Adds.{Table}
 use Rattle.adding.proofs.Stores.{has-fits}
+use Rattle.comparing.specs.Compares.{numberOf}
 use Rattle.choosing.specs.Chooses.{chosenPair}
 use Rattle.choosing.specs.Picks.{numbered, usesOf}
 use Rattle.choosing.proofs.Says.{chosen-has, uses-has}
@@ -40,7 +41,7 @@ module _ (s : Scope) (t : Table) (m : Mapping) (tabled : Tabled s t m) (good : G
   fits : length (tabled .pairs) ≤ room (t .words)
   fits = has-fits (tabled .has) room-for
 
-  pub chosen-final : (name : Name) → numbered (tabled .pairs) (chosenPair s (t .words) name) ≡ bytesIf (get Op name Final)
+  pub chosen-final : (name : Name) → numbered (tabled .pairs) (chosenPair s (t .words) name (numberOf (s .op) name)) ≡ bytesIf (get Op name Final)
   chosen-final name =
       sym (chosen-has s t (tabled .pairs) (tabled .has) fits name .picked)
       ∙ ap (λ (x : Bytes). choice (s .op) x (basesNamed (s .op) (tabled .pairs) name)) prefix-is
@@ -48,7 +49,7 @@ module _ (s : Scope) (t : Table) (m : Mapping) (tabled : Tabled s t m) (good : G
 
   -- whether a name is replaced where it is selected from a path
   pub replaces-chosen : (name : Name) (b : Path) → Canonical b
-      → replaces Op Final name b ≡ whether (numbered (tabled .pairs) (chosenPair s (t .words) name)) false (λ x. samePaths (s .op) x (encode b))
+      → replaces Op Final name b ≡ whether (numbered (tabled .pairs) (chosenPair s (t .words) name (numberOf (s .op) name))) false (λ x. samePaths (s .op) x (encode b))
   unfolding replaces
   replaces-chosen name b c =
       rw (chosen-final name) (go (get Op name Final) (final-canonical (s .op) (tabled .pairs) m (tabled .means) good S canonical name))

@@ -16,7 +16,7 @@ use Rattle.prefix.specs.Prefix.{Scope}
 use Rattle.comparing.specs.Compares.{placeIn, baseAt, sameBase}
 use Rattle.comparing.proofs.Bases.{base-both-prefix}
 use Rattle.chains.specs.declared.Want.the-variants.{Named}
-use Rattle.chains.specs.Chains.{room, nameAt, wordAt, nextOf, isWanted, seek}
+use Rattle.chains.specs.Chains.{room, nameAt, numberAt, wordAt, nextOf, isWanted, seek}
 use Rattle.pairs.specs.Stored.{Stored, stored}
 use Rattle.pairs.specs.Choice.{useBytes}
 use Rattle.choosing.specs.Chooses.{chosenPair, usePair}
@@ -48,10 +48,10 @@ pub record Brings (s : Scope) (words : List ℕ) (g c : ℕ) : Type 0 where
 
 module _ (s : Scope) (words : List ℕ) where
   abbrev Ahead : ℕ → ℕ
-  Ahead g = seek (isWanted s words (nameAt (s .card) words (g - 1)) Named) words (nextOf words g)
+  Ahead g = seek (isWanted s words (nameAt (s .card) words (g - 1)) (numberAt words (g - 1)) Named) words (nextOf words g)
 
   abbrev Chosen : ℕ → ℕ
-  Chosen g = chosenPair s words (nameAt (s .card) words (g - 1))
+  Chosen g = chosenPair s words (nameAt (s .card) words (g - 1)) (numberAt words (g - 1))
 
   brings-of : (g : ℕ) → (usePair s words g ≡ 0 → ⊥) → Brings s words g (usePair s words g)
   unfolding usePair
@@ -64,7 +64,7 @@ module _ (s : Scope) (words : List ℕ) where
       (λ x. rw (t, u, v, w, x) record {
         first = let d = eqb-false g 0 t in omega (arith, d);
         inside = ltb-false (room words) g u;
-        chosen = chosen-room s words (nameAt (s .card) words (g - 1)) (Chosen g) refl;
+        chosen = chosen-room s words (nameAt (s .card) words (g - 1)) (numberAt words (g - 1)) (Chosen g) refl;
         other = x;
       })))))
 

@@ -20,7 +20,7 @@ use Rattle.operation.proofs.Weights.{weight-length, weight-small}
 use Rattle.prefix.specs.Prefix.{Scope, scope, selection}
 use Rattle.comparing.specs.Compares.{placeIn, baseAt, sameBase}
 use Rattle.chains.specs.declared.Want.the-variants.{Named}
-use Rattle.chains.specs.Chains.{room, nameAt, wordAt, nextOf, isWanted, seek}
+use Rattle.chains.specs.Chains.{room, nameAt, numberAt, wordAt, nextOf, isWanted, seek}
 use Rattle.pairs.specs.Stored.{Stored, stored}
 use Rattle.pairs.specs.Choice.{useBytes}
 use Rattle.adding.specs.Adds.{Table, table}
@@ -73,9 +73,10 @@ module _ (s : Scope) (words : List ℕ) where
   unfolding usePair Brought
   use-fits g =
       let name = nameAt (s .card) words (g - 1) in
-      let chosen = chosenPair s words name in
+      let number = numberAt words (g - 1) in
+      let chosen = chosenPair s words name number in
       one-of Brought (eqb g 0 || ltb (room words) g) none-brought
-      (one-of Brought (ltb 0 (seek (isWanted s words name Named) words (nextOf words g))) none-brought
+      (one-of Brought (ltb 0 (seek (isWanted s words name number Named) words (nextOf words g))) none-brought
       (by-test (eqb chosen 0 || sameBase s (wordAt words (chosen - 1)) 0)
       (λ t. rw t none-brought)
       (λ t. rw t (λ h. base-fits s (wordAt words (chosen - 1)) (either-false (eqb chosen 0) (sameBase s (wordAt words (chosen - 1)) 0) t)))))

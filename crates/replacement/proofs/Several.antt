@@ -14,10 +14,10 @@ use Rattle.rast.proofs.Tests.{by-test}
 use Rattle.operation.specs.declared.Shortening.{Shortening}
 use Rattle.operation.specs.Operations.{operationOf, samePaths}
 use Rattle.prefix.specs.Prefix.{Scope, prefixIn}
-use Rattle.comparing.specs.Compares.{placeIn, tagIn, baseAt, sameBase}
+use Rattle.comparing.specs.Compares.{numberOf, placeIn, tagIn, baseAt, sameBase}
 use Rattle.chains.specs.declared.Want.{Want}
 use Rattle.chains.specs.declared.Want.the-variants.{Based, Runtime}
-use Rattle.chains.specs.Chains.{room, nameAt, numberAt, numberOf, wordAt, nextOf, hasWanted, hasNamed, isWanted, seekFrom, seek}
+use Rattle.chains.specs.Chains.{room, nameAt, numberAt, wordAt, nextOf, hasWanted, hasNamed, isWanted, seekFrom, seek}
 use Rattle.choosing.specs.Chooses.{chosenOfSeveral, chosenPair}
 use Rattle.rewriting.specs.Replaces.{replaces}
 
@@ -53,29 +53,29 @@ not-true : (b : Bool) → not b ≡ true → b ≡ false
 not-true true h = absurd (true≢false (sym h))
 not-true false h = refl
 
-module _ (s : Scope) (words : List ℕ) (name base : Bytes) where
+module _ (s : Scope) (words : List ℕ) (name base : Bytes) (number : ℕ) where
   -- of the pair that i pairs stand ahead of, the base that was sought
   abbrev Base : ℕ → Bytes
   Base i = baseAt s (placeIn (wordAt words i))
 
-  wanted : (want : Want) (i : ℕ) → isWanted s words name want i ≡ true → hasWanted s want (wordAt words i) ≡ true
+  wanted : (want : Want) (i : ℕ) → isWanted s words name number want i ≡ true → hasWanted s want (wordAt words i) ≡ true
   unfolding isWanted hasNamed
   wanted want i e =
       and-eq-true-iff (operationOf (s .op) .sameName (nameAt (s .card) words i) name) (hasWanted s want (wordAt words i)) .0
-      (and-eq-true-iff (eqb (numberAt words i) (numberOf (s .op) name)) (hasNamed s words name want i) .0 e .1) .1
+      (and-eq-true-iff (eqb (numberAt words i) number) (hasNamed s words name want i) .0 e .1) .1
 
   base-none : baseAt s 0 ≡ prefixIn s
   unfolding baseAt
   base-none = refl
 
-  prefix-base : (i : ℕ) → isWanted s words name (Based 0) i ≡ true → samePaths (s .op) (Base i) (prefixIn s) ≡ true
+  prefix-base : (i : ℕ) → isWanted s words name number (Based 0) i ≡ true → samePaths (s .op) (Base i) (prefixIn s) ≡ true
   unfolding hasWanted sameBase
   prefix-base i e =
       let w = wordAt words i in
       ap (samePaths (s .op) (Base i)) (sym base-none) ∙ either-way (eqb (placeIn w) 0) (eqb (tagIn w) 0) (samePaths (s .op) (Base i) (baseAt s 0))
       (wanted (Based 0) i e)
 
-  runtime-base : (i : ℕ) → isWanted s words name Runtime i ≡ true → samePaths (s .op) (Base i) (encode «dafny_runtime») ≡ true
+  runtime-base : (i : ℕ) → isWanted s words name number Runtime i ≡ true → samePaths (s .op) (Base i) (encode «dafny_runtime») ≡ true
   unfolding hasWanted baseAt
   runtime-base i e =
       let p = placeIn (wordAt words i) in
@@ -84,11 +84,11 @@ module _ (s : Scope) (words : List ℕ) (name base : Bytes) where
 
   module _ (p : sameBytes base (prefixIn s) ≡ false) (r : sameBytes base (encode «dafny_runtime») ≡ false) where
     -- what is chosen among several has another base
-    several-other : (first : ℕ) → 0 < chosenOfSeveral s words name first → samePaths (s .op) (Base (chosenOfSeveral s words name first - 1)) base ≡ false
+    several-other : (first : ℕ) → 0 < chosenOfSeveral s words name number first → samePaths (s .op) (Base (chosenOfSeveral s words name number first - 1)) base ≡ false
     unfolding chosenOfSeveral
     several-other first h =
-        let f = isWanted s words name (Based 0) in
-        let g = isWanted s words name Runtime in
+        let f = isWanted s words name number (Based 0) in
+        let g = isWanted s words name number Runtime in
         by-test (ltb 0 (seek f words first))
         (λ t. rw t (other-path (s .op) _ (prefixIn s) base
         (prefix-base (seek f words first - 1) (seek-holds f words first (ltb-true 0 (seek f words first) t))) p))
@@ -96,16 +96,18 @@ module _ (s : Scope) (words : List ℕ) (name base : Bytes) where
         (runtime-base (seek g words first - 1) (seek-holds g words first (rw t at h))) r))
 
     -- THE LAW
-    several-not : (first : ℕ) → chosenOfSeveral s words name first ≡ chosenPair s words name → false ≡ replaces s words name base
+    several-not : number ≡ numberOf (s .op) name → (first : ℕ) → chosenOfSeveral s words name number first ≡ chosenPair s words name number → false ≡ replaces s words name base
     unfolding replaces
-    several-not first e =
-        by-test (eqb (chosenPair s words name) 0) (λ t. rw t)
+    several-not d first e =
+        rw (← d)
+        (by-test (eqb (chosenPair s words name number) 0) (λ t. rw t)
         (λ t. rw t
         (sym (subst (λ (g : ℕ). samePaths (s .op) (Base (g - 1)) base ≡ false) e
-        (several-other first (let d = eqb-false (chosenPair s words name) 0 t in omega (arith, d, e))))))
+        (several-other first (let d = eqb-false (chosenPair s words name number) 0 t in omega (arith, d, e)))))))
 
 -- by the tests of the code
 pub several-gives : (s : Scope) (words : List ℕ) (name base : Bytes) (b c : Bool) → b ≡ sameBytes base (prefixIn s) → not b ≡ true
-    → c ≡ sameBytes base (encode «dafny_runtime») → not c ≡ true → (first : ℕ) → chosenOfSeveral s words name first ≡ chosenPair s words name
-    → false ≡ replaces s words name base
-several-gives s words name base b c x t y u first e = several-not s words name base (sym x ∙ not-true b t) (sym y ∙ not-true c u) first e
+    → c ≡ sameBytes base (encode «dafny_runtime») → not c ≡ true → (number : ℕ) → number ≡ numberOf (s .op) name
+    → (first : ℕ) → chosenOfSeveral s words name number first ≡ chosenPair s words name number → false ≡ replaces s words name base
+several-gives s words name base b c x t y u number d first e =
+    several-not s words name base number (sym x ∙ not-true b t) (sym y ∙ not-true c u) d first e

@@ -10,7 +10,7 @@ use Rattle.records.specs.Record.{kindOf, contentOf, restOf, firstRecord}
 use Rattle.factor_paths.specs.PathsVisitor.{marked, unmarked}
 use Rattle.operation.specs.Operations.{samePaths}
 use Rattle.prefix.specs.Prefix.{Scope}
-use Rattle.comparing.specs.Compares.{placeIn, baseAt}
+use Rattle.comparing.specs.Compares.{numberOf, placeIn, baseAt}
 use Rattle.chains.specs.Chains.{wordAt}
 use Rattle.choosing.specs.Chooses.{chosenPair}
 use Rattle.rewriting.specs.Replaces.{nameIn, baseIn, replaces, replacesType, replacesExpr}
@@ -23,14 +23,14 @@ pub base-is : (r c p b : Bytes) → c ≡ contentOf r → p ≡ contentOf c → 
 base-is r c p b e f g = g ∙ ap firstRecord (f ∙ ap contentOf e)
 
 module _ (s : Scope) (words : List ℕ) where
-  module _ (name base : Bytes) (g : ℕ) (e : g ≡ chosenPair s words name) where
+  module _ (name base : Bytes) (number : ℕ) (d : number ≡ numberOf (s .op) name) (g : ℕ) (e : g ≡ chosenPair s words name number) where
     pub replaces-none : g ≡ 0 → false ≡ replaces s words name base
     unfolding replaces
-    replaces-none z = rw (← e, eq-eqb g 0 z)
+    replaces-none z = rw (← d, ← e, eq-eqb g 0 z)
 
     pub replaces-base : (g ≡ 0 → ⊥) → (r : Bool) → r ≡ samePaths (s .op) (baseAt s (placeIn (wordAt words (g - 1)))) base → r ≡ replaces s words name base
     unfolding replaces
-    replaces-base z r h = h ∙ rw (← e, ne-eqb g 0 z)
+    replaces-base z r h = h ∙ rw (← d, ← e, ne-eqb g 0 z)
 
   -- a pair's base, by its word
   pub base-word-is : (base : Bytes) (i w : ℕ) → w ≡ getD words (4 * i + 2) 0 → (r : Bool) → r ≡ samePaths (s .op) (baseAt s (w % 65536)) base

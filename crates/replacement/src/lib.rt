@@ -40,16 +40,15 @@ fn replaces(
     ensures { λ r. ⌜ r ≡ Replaces·replaces (scope op (now (card .entry)) (now (root .entry)) (now (chain .entry)))
         (now (work .entry)) (now (name .entry)) (now (base .entry)) ⌝ }
 {
-    let hash = comparing::hash(op, name);
-    let number = hash % 65536;
+    let number = comparing::number(op, name);
     let want = Want::Named;
-    let first = chains::head(work, chains::bucket_by(work, hash));
-    let one = seeking::seek_by(op, card, root, chain, work, first, name, number, want);
+    let first = chains::head(work, chains::bucket(work, number));
+    let one = seeking::seek(op, card, root, chain, work, first, name, number, want);
     if one == 0 {
         return false;
     }
     let after = chains::next(work, one);
-    let two = seeking::seek_by(op, card, root, chain, work, after, name, number, want);
+    let two = seeking::seek(op, card, root, chain, work, after, name, number, want);
     if two == 0 {
         return has_base(op, card, root, chain, work, one, base);
     }
@@ -58,7 +57,7 @@ fn replaces(
             return false;
         }
     }
-    let g = choosing::chosen(op, card, root, chain, work, name);
+    let g = choosing::chosen(op, card, root, chain, work, name, number);
     if g == 0 {
         return false;
     }

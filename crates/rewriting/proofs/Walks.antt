@@ -29,7 +29,7 @@ use Rattle.factor_paths.proofs.Wraps.{deeper-suc, or-left, or-right, paths-walk
 use Rattle.operation.specs.Operations.{operationOf, samePaths, weightBytes}
 use Rattle.places.proofs.Weighed.{weighed, weighedAll, weighed-node, weighed-beside, weighed-self}
 use Rattle.prefix.specs.Prefix.{Scope, prefixIn}
-use Rattle.comparing.specs.Compares.{placeIn, baseAt}
+use Rattle.comparing.specs.Compares.{numberOf, placeIn, baseAt}
 use Rattle.chains.specs.Chains.{room, wordAt}
 use Rattle.adding.specs.Adds.{Table}
 use Rattle.adding.proofs.Stores.{has-fits}
@@ -167,7 +167,7 @@ module _ (s : Scope) (t : Table) (m : Mapping) (tabled : Tabled s t m) (good : G
   pub replaces-is : (name : Name) (b : Path) → Canonical b → replaces s (t .words) name (encode b) ≡ replacesPath Op Final name b
   unfolding replaces
   replaces-is name b c =
-      go (chosenPair s words name) (chosen-has s t (tabled .pairs) (tabled .has) fits name .inside)
+      go (chosenPair s words name (numberOf (s .op) name)) (chosen-has s t (tabled .pairs) (tabled .has) fits name .inside)
       ∙ sym (replaces-chosen s t m tabled good room-for S canonical prefix-is name b c)
     where
       fits : length (tabled .pairs) ≤ room (t .words)

@@ -8,7 +8,7 @@ use Rattle.records.specs.Record.{kindOf, contentOf, restOf, firstRecord}
 use Rattle.factor_paths.specs.PathsVisitor.{marked, unmarked}
 use Rattle.operation.specs.Operations.{samePaths}
 use Rattle.prefix.specs.Prefix.{Scope}
-use Rattle.comparing.specs.Compares.{placeIn, baseAt}
+use Rattle.comparing.specs.Compares.{numberOf, placeIn, baseAt}
 use Rattle.chains.specs.Chains.{wordAt}
 use Rattle.choosing.specs.Chooses.{chosenPair}
 
@@ -23,7 +23,7 @@ module _ (s : Scope) (words : List ℕ) where
   -- id in replacement && replacement[id] == base
   unfoldable pub replaces : (name base : Bytes) → Bool
   replaces name base =
-      let g : ℕ = chosenPair s words name in
+      let g : ℕ = chosenPair s words name (numberOf (s .op) name) in
       cond (eqb g 0) false (samePaths (s .op) (baseAt s (placeIn (wordAt words (g - 1)))) base)
 
   unfoldable pub replacesType : Bytes → Bool

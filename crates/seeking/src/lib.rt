@@ -4,7 +4,7 @@ use operation::Shortening;
 ghost use mathlib.Core.Path.{_≡_};
 ghost use Prim.Native.Nat.{_-_, _<_, _≤_};
 ghost use Rattle.prefix.specs.Prefix.{scope};
-ghost use Rattle.chains.specs.Chains.{room as Chains·room, hasWanted, isOther, isWanted, isNumbered, mayBe, mayHave, seek as Chains·seek};
+ghost use Rattle.chains.specs.Chains.{room as Chains·room, hasWanted, isOther, isWanted, mayBe, mayHave, seek as Chains·seek};
 
 // Whether a base, as a word, is the one that is sought.
 fn has_wanted(
@@ -63,7 +63,7 @@ fn is_wanted(
 ) -> bool
     requires { ⌜ (0 < g) × (g ≤ Chains·room (now work)) ⌝ }
     ensures { λ r. ⌜ r
-        ≡ isNumbered (scope op (now (card .entry)) (now (root .entry)) (now (chain .entry))) (now (work .entry)) (now (name .entry)) number want (g - 1) ⌝ }
+        ≡ isWanted (scope op (now (card .entry)) (now (root .entry)) (now (chain .entry))) (now (work .entry)) (now (name .entry)) number want (g - 1) ⌝ }
 {
     let k = 4 * (g - 1);
     let w = wire::word(work[k + 2]);
@@ -139,7 +139,7 @@ fn seek_some(
     want: Want,
 ) -> usize
     ensures { λ r. ⌜ r ≡ Chains·seek
-        (isNumbered (scope op (now (card .entry)) (now (root .entry)) (now (chain .entry))) (now (work .entry)) (now (name .entry)) number want)
+        (isWanted (scope op (now (card .entry)) (now (root .entry)) (now (chain .entry))) (now (work .entry)) (now (name .entry)) number want)
         (now (work .entry)) from ⌝ }
 {
     if chains::room(work) < from {
@@ -156,8 +156,8 @@ fn seek_some(
     0
 }
 
-// The same, for a caller that says the number of the name. Most chains end where they begin: those cost no call.
-pub fn seek_by(
+// The same. Most chains end where they begin: those cost no call.
+pub fn seek(
     op: Shortening,
     card: &[u8],
     root: &[u8],
@@ -169,33 +169,11 @@ pub fn seek_by(
     want: Want,
 ) -> usize
     ensures { λ r. ⌜ r ≡ Chains·seek
-        (isNumbered (scope op (now (card .entry)) (now (root .entry)) (now (chain .entry))) (now (work .entry)) (now (name .entry)) number want)
+        (isWanted (scope op (now (card .entry)) (now (root .entry)) (now (chain .entry))) (now (work .entry)) (now (name .entry)) number want)
         (now (work .entry)) from ⌝ }
 {
     if from == 0 {
         return 0;
     }
     seek_some(op, card, root, chain, work, from, name, number, want)
-}
-
-// The first pair of the chain from pair g on that has this name and what is sought.
-pub fn seek(
-    op: Shortening,
-    card: &[u8],
-    root: &[u8],
-    chain: &[usize],
-    work: &[u32],
-    from: usize,
-    name: &[u8],
-    want: Want,
-) -> usize
-    ensures { λ r. ⌜ r ≡ Chains·seek
-        (isWanted (scope op (now (card .entry)) (now (root .entry)) (now (chain .entry))) (now (work .entry)) (now (name .entry)) want)
-        (now (work .entry)) from ⌝ }
-{
-    if from == 0 {
-        return 0;
-    }
-    let number = comparing::hash(op, name) % 65536;
-    seek_by(op, card, root, chain, work, from, name, number, want)
 }

@@ -25,13 +25,13 @@ module _ (s : Scope) (left at owner : ℕ) (t : Table) where
     unfolding tableOf settledTable
     owner-full h = rw (ne-eqb owner at other, ← y, lt-ltb (room words) n (omega arith))
 
-    pub owner-settled : n ≤ most → (own : List ℕ) → own ≡ settled (s .op) (s .card) (take (4 * n) words)
+    pub owner-settled : n ≤ most → (own : List ℕ) → own ≡ settled (take (4 * n) words)
         → table n (own ++ drop (4 * n) words) ≡ tableOf s left at owner t
     unfolding tableOf settledTable
     owner-settled h own x = rw (ne-eqb owner at other, ← y, le-ltb (room words) n (omega arith), x)
 
   -- THE LAW: what holds of words that hold the module's table, and of a table that is collected and settled, holds of the module's table
-  pub owner-has : (P : Table → Type 0) → (owner ≡ at → P t) → P (settledTable (s .op) (s .card) (gathered s left at (t .words)))
+  pub owner-has : (P : Table → Type 0) → (owner ≡ at → P t) → P (settledTable (gathered s left at (t .words)))
       → P (tableOf s left at owner t)
   unfolding tableOf
   owner-has P held new = by-test (eqb owner at) (λ e. rw e (held (eqb-true owner at e))) (λ e. rw e new)

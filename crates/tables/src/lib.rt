@@ -36,7 +36,7 @@ pub fn table_of(
     let n = collecting::collect_module(op, card, at, left, root, chain, work);
     if n <= chains::room(work) {
         let m = 4 * n;
-        adding::settle(op, card, &mut work[..m]);
+        adding::settle(&mut work[..m]);
     }
     Held {
         owner: at,

@@ -74,6 +74,7 @@ fn is_first(card: &[u8], root: &[u8], chain: &[usize], work: &[u32], g: usize) -
         work,
         older,
         name,
+        comparing::number(Shortening::Upstream, name),
         Want::Named,
     )
         == 0
@@ -87,7 +88,8 @@ fn say_choice(card: &[u8], root: &[u8], chain: &[usize], work: &[u32], g: usize)
     let name = name_of(card, work, g);
     say(b"chosen ");
     test_input::say_bytes(name);
-    let c = choosing::chosen(Shortening::Upstream, card, root, chain, work, name);
+    let number = comparing::number(Shortening::Upstream, name);
+    let c = choosing::chosen(Shortening::Upstream, card, root, chain, work, name, number);
     if c == 0 {
         say(b" none\n");
         return;

@@ -1,4 +1,4 @@
--- Comparing bytes from the first to the last, one or eight at a time, and in two parts. Assumes nothing.
+-- Comparing bytes from the first to the last, one or some at a time, and in two parts. Assumes nothing.
 use mathlib.Core.Path.{_≡_, refl, ap, sym, _∙_}
 use mathlib.Core.List.{[], _∷_, _++_}
 use mathlib.Core.Bool.{Bool, true, false, _&&_, and-assoc}
@@ -32,9 +32,9 @@ same-parts (x ∷ s) (y ∷ h) t l =
     and-assoc (eqb x y) (sameBytes (take (length h) s) h) (sameBytes (drop (length h) s) t)
     ∙ ap (λ (b : Bool). eqb x y && b) (same-parts s h t (omega arith))
 
--- the eight bytes at a place, and a byte as it was read
-abbrev Eight : Bytes → ℕ → Bytes
-Eight s at = take 8 (drop at s)
+-- k bytes at a place, and a byte as it was read
+abbrev Some : ℕ → Bytes → ℕ → Bytes
+Some k s at = take k (drop at s)
 
 abbrev Byte : Bytes → ℕ → ℕ → Type 0
 Byte s i b = (b ≡ getD s i 0) × (b < 256)
@@ -59,19 +59,19 @@ unfolding num
 four-is s at a b c d l p q r t = let f = next-four s at 0 l in (omega arith, omega arith)
 
 pub eight-is : (s : Bytes) (at m n : ℕ) → at + 8 ≤ length s → m ≡ num (take 4 (drop at s)) → n ≡ num (take 4 (drop (at + 4) s))
-    → m + 4294967296 * n ≡ num (Eight s at)
+    → m + 4294967296 * n ≡ num (Some 8 s at)
 unfolding num
 eight-is s at m n l p q = let f = next-four s at 0 (omega arith) in let g = next-four s at 4 (omega arith) in omega arith
 
-eight-long : (s : Bytes) (at : ℕ) → at + 8 ≤ length s → length (Eight s at) ≡ 8
-eight-long s at h = let d = length-drop at s in length-take-le 8 (drop at s) (omega arith)
+some-long : (k : ℕ) (s : Bytes) (at : ℕ) → at + k ≤ length s → length (Some k s at) ≡ k
+some-long k s at h = let d = length-drop at s in length-take-le k (drop at s) (omega arith)
 
--- bytes whose eight at a place hold different numbers are not the same
-pub not-eight : (a b : Bytes) (at m n : ℕ) → m ≡ num (Eight a at) → n ≡ num (Eight b at) → (m ≡ n → ⊥) → false ≡ sameBytes a b
-not-eight a b at m n p q d = go (sameBytes a b) refl
+-- bytes of which some at a place hold different numbers are not the same
+pub not-some : (k : ℕ) (a b : Bytes) (at m n : ℕ) → m ≡ num (Some k a at) → n ≡ num (Some k b at) → (m ≡ n → ⊥) → false ≡ sameBytes a b
+not-some k a b at m n p q d = go (sameBytes a b) refl
   where
     go : (x : Bool) → sameBytes a b ≡ x → false ≡ x
-    go true e = absurd (d (p ∙ ap (λ (s : Bytes). num (Eight s at)) (sameBytes-true a b e) ∙ sym q))
+    go true e = absurd (d (p ∙ ap (λ (s : Bytes). num (Some k s at)) (sameBytes-true a b e) ∙ sym q))
     go false e = refl
 
 -- the first i bytes are the same
@@ -102,40 +102,40 @@ module _ (a b : Bytes) (i : ℕ) (l : Alike a b i) where
         rest = l .rest ∙ rw (add-one i, drop-cons a i 0 h, drop-cons b i 0 (omega arith), eq-eqb (getD a i 0) (getD b i 0) e);
       }
 
-  module _ (ka : (k : ℕ) → getD a k 0 < 256) (kb : (k : ℕ) → getD b k 0 < 256) (m n : ℕ) where
-    -- eight bytes that hold the same number are the same
-    eight-same : (at : ℕ) → at + 8 ≤ length a → m ≡ num (Eight a at) → n ≡ num (Eight b at) → m ≡ n → Eight a at ≡ Eight b at
-    eight-same at h p q e =
-        let k = l .long in
-        num-same (Eight a at) (Eight b at) (take-bytes 8 (drop at a) (drop-bytes at a (are-bytes a ka)))
-        (take-bytes 8 (drop at b) (drop-bytes at b (are-bytes b kb))) (eight-long a at h ∙ sym (eight-long b at (omega arith))) (sym p ∙ e ∙ q)
+  module _ (k : ℕ) (ka : (j : ℕ) → getD a j 0 < 256) (kb : (j : ℕ) → getD b j 0 < 256) (m n : ℕ) where
+    -- as many bytes that hold the same number are the same
+    some-same : (at : ℕ) → at + k ≤ length a → m ≡ num (Some k a at) → n ≡ num (Some k b at) → m ≡ n → Some k a at ≡ Some k b at
+    some-same at h p q e =
+        let g = l .long in
+        num-same (Some k a at) (Some k b at) (take-bytes k (drop at a) (drop-bytes at a (are-bytes a ka)))
+        (take-bytes k (drop at b) (drop-bytes at b (are-bytes b kb))) (some-long k a at h ∙ sym (some-long k b at (omega arith))) (sym p ∙ e ∙ q)
 
-    pub alike-eight : i + 8 ≤ length a → m ≡ num (Eight a i) → n ≡ num (Eight b i) → m ≡ n → Alike a b (i + 8)
-    alike-eight h p q e =
-        let k = l .long in
+    pub alike-some : i + k ≤ length a → m ≡ num (Some k a i) → n ≡ num (Some k b i) → m ≡ n → Alike a b (i + k)
+    alike-some h p q e =
+        let g = l .long in
         let d = length-drop i a in
-        let w = eight-long b i (omega arith) in
-        let split = rw w at (same-parts (drop i a) (Eight b i) (drop 8 (drop i b)) (omega arith)) in
+        let w = some-long k b i (omega arith) in
+        let split = rw w at (same-parts (drop i a) (Some k b i) (drop k (drop i b)) (omega arith)) in
         record {
           long = l .long;
           inside = omega arith;
           rest =
               l .rest
-              ∙ sym (rw (take-append-drop 8 (drop i b), eight-same i h p q e, sameBytes-self (Eight b i), drop-drop 8 i a, drop-drop 8 i b) at split);
+              ∙ sym (rw (take-append-drop k (drop i b), some-same i h p q e, sameBytes-self (Some k b i), drop-drop k i a, drop-drop k i b) at split);
         }
 
-    -- the last eight bytes decide where all before them are the same
-    pub alike-last : (at : ℕ) → at ≤ i → length a ≡ at + 8 → m ≡ num (Eight a at) → n ≡ num (Eight b at) → eqb m n ≡ sameBytes a b
+    -- the last k bytes decide where all before them are the same
+    pub alike-last : (at : ℕ) → at ≤ i → length a ≡ at + k → m ≡ num (Some k a at) → n ≡ num (Some k b at) → eqb m n ≡ sameBytes a b
     alike-last at h len p q = go (eqb m n) refl
       where
-        tail : (s : Bytes) → length s ≡ at + 8 → Eight s at ≡ drop at s
-        tail s g = let d = length-drop at s in take-all 8 (drop at s) (omega arith)
+        tail : (s : Bytes) → length s ≡ at + k → Some k s at ≡ drop at s
+        tail s g = let d = length-drop at s in take-all k (drop at s) (omega arith)
 
         go : (x : Bool) → eqb m n ≡ x → x ≡ sameBytes a b
-        go false t = not-eight a b at m n p q (eqb-false m n t)
+        go false t = not-some k a b at m n p q (eqb-false m n t)
         go true t =
-            let k = l .long in
-            let e : drop at a ≡ drop at b = sym (tail a len) ∙ eight-same at (omega arith) p q (eqb-true m n t) ∙ tail b (omega arith) in
+            let f = l .long in
+            let e : drop at a ≡ drop at b = sym (tail a len) ∙ some-same at (omega arith) p q (eqb-true m n t) ∙ tail b (omega arith) in
             let z : at + (i - at) ≡ i = omega arith in
             let u : drop i a ≡ drop i b = sym (rw z at (drop-drop (i - at) at a)) ∙ ap (drop (i - at)) e ∙ rw z at (drop-drop (i - at) at b) in
             sym (l .rest ∙ rw u (sameBytes-self (drop i b)))

@@ -42,6 +42,22 @@ fn same_few(a: &[u8], b: &[u8]) -> bool
     true
 }
 
+// The same of at most eight bytes: the first four and the last four, which may have some in common, or byte by byte.
+fn same_short(a: &[u8], b: &[u8]) -> bool
+    requires { do ⌜ ((← ⟦a.len()⟧) ≡ (← ⟦b.len()⟧)) × ((← ⟦a.len()⟧) ≤ 8) ⌝ }
+    ensures { λ r. ⌜ r ≡ sameBytes (now (a .entry)) (now (b .entry)) ⌝ }
+{
+    let n = a.len();
+    if n < 4 {
+        return same_few(a, b);
+    }
+    if four(a, 0) != four(b, 0) {
+        return false;
+    }
+    let last = n - 4;
+    four(a, last) == four(b, last)
+}
+
 // Whether two slices hold the same bytes. Lengths come first: most names that differ do so there. Then eight bytes are compared at a time,
 // and the last eight, of which some may have been compared before.
 pub fn same(a: &[u8], b: &[u8]) -> bool
@@ -52,7 +68,7 @@ pub fn same(a: &[u8], b: &[u8]) -> bool
         return false;
     }
     if n < 8 {
-        return same_few(a, b);
+        return same_short(a, b);
     }
     let last = n - 8;
     let mut at = 0;

@@ -1,6 +1,5 @@
 -- `adding::add` meets its contract, case by case. Assumes nothing.
 use Rattle.prefix.specs.Prefix.{scope}
-use Rattle.chains.proofs.Tests.{bucket-is, seek-is}
 use Rattle.adding.proofs.Tests.{add-full, add-old, add-past, add-room, add-new}
 use borrow.Author.Needs.{needs}
 use Rattle.adding.proofs.add.Statement.{statement}
@@ -8,12 +7,12 @@ use Rattle.adding.proofs.add.Tie as tie
 use Rattle.adding.proofs.add.Reads as reads
 use Rattle.adding.proofs.add.Lts as lts
 use Rattle.adding.proofs.put.Reads as put-reads
-use Rattle.chains.proofs.bucket_by.Reads as bucket-by-reads
+use Rattle.chains.proofs.bucket.Reads as bucket-reads
 use Rattle.chains.proofs.head.Reads as head-reads
 use Rattle.chains.proofs.room.Reads as room-reads
-use Rattle.seeking.proofs.seek_by.Reads as seek-by-reads
+use Rattle.seeking.proofs.seek.Reads as seek-reads
 use Rattle.comparing.proofs.base_word.Reads as base-word-reads
-use Rattle.comparing.proofs.hash.Reads as hash-reads
+use Rattle.comparing.proofs.number.Reads as number-reads
 use Rattle.wire.proofs.part.Reads as part-reads
 use Rattle.wire.proofs.word.Reads as word-reads
 
@@ -40,11 +39,11 @@ word-requires-2 c κs = search needs
 part-requires : tie.Need-part-requires
 part-requires c κs = search needs
 
-hash-requires : tie.Need-hash-requires
-hash-requires c κs = search needs
+number-requires : tie.Need-number-requires
+number-requires c κs = search needs
 
-bucket-by-requires : tie.Need-bucket-by-requires
-bucket-by-requires c κs = search needs
+bucket-requires : tie.Need-bucket-requires
+bucket-requires c κs = search needs
 
 base-word-requires : tie.Need-base-word-requires
 base-word-requires c κs = search needs
@@ -52,8 +51,8 @@ base-word-requires c κs = search needs
 head-requires : tie.Need-head-requires
 head-requires c κs = search needs
 
-seek-by-requires : tie.Need-seek-by-requires
-seek-by-requires c κs = search needs
+seek-requires : tie.Need-seek-requires
+seek-requires c κs = search needs
 
 same-length-2 : tie.Need-same-length-2
 same-length-2 c = search needs
@@ -67,16 +66,16 @@ returns-2 c =
     let word = c .before .before .before .before .before .before .before .before .before .before .before .word in
     let word2 = c .before .before .before .before .before .before .before .before .before .before .word2 in
     let part = c .before .before .before .before .before .before .before .before .before .part in
-    let hash = c .before .before .before .before .before .before .before .before .hash in
-    let bucket-by = c .before .before .before .before .before .before .bucket-by in
+    let number = c .before .before .before .before .before .before .before .before .number in
+    let bucket = c .before .before .before .before .before .before .bucket in
     let base-word = c .before .before .before .before .before .base-word in
     let head = c .before .before .before .head in
-    let seek-by = c .before .seek-by in
+    let seek = c .before .seek in
     let if2 = c .if2 in
-    add-old (scope (args .op) (args .card .now) (args .root .now) (args .chain .now)) (args .work .now) (args .n) (args .at) (args .len) (args .base) _
-    (room .ensures) (if1 .left) _ _ (word .ensures .0) (word2 .ensures .0) _ (part .ensures) _ _ _ _ (bucket-is _ _ _ _ _ (hash .ensures .0)
-    (bucket-by .ensures))
-    (base-word .ensures .0) (head .ensures .0) (seek-is (scope (args .op) (args .card .now) (args .root .now) (args .chain .now)) (args .work .now) (part .result .now) _ _ _ _ (hash .ensures .0) (seek-by .ensures)) (if2 .taken)
+    let scoped = scope (args .op) (args .card .now) (args .root .now) (args .chain .now) in
+    add-old scoped (args .work .now) (args .n) (args .at) (args .len) (args .base) _ (room .ensures) (if1 .left) _ _ (word .ensures .0) (word2
+    .ensures .0) _ (part .ensures) _ _ _ _ _ (number .ensures .0) (bucket .ensures) (base-word .ensures .0) (head .ensures .0)
+    (seek .ensures) (if2 .taken)
 
 add-result : tie.Need-add-result
 add-result c = search needs
@@ -93,17 +92,17 @@ returns-3 c =
     let word = c .before .before .before .before .before .before .before .before .before .before .before .before .word in
     let word2 = c .before .before .before .before .before .before .before .before .before .before .before .word2 in
     let part = c .before .before .before .before .before .before .before .before .before .before .part in
-    let hash = c .before .before .before .before .before .before .before .before .before .hash in
-    let bucket-by = c .before .before .before .before .before .before .before .bucket-by in
+    let number = c .before .before .before .before .before .before .before .before .before .number in
+    let bucket = c .before .before .before .before .before .before .before .bucket in
     let base-word = c .before .before .before .before .before .before .base-word in
     let head = c .before .before .before .before .head in
-    let seek-by = c .before .before .seek-by in
+    let seek = c .before .before .seek in
     let if2 = c .before .if2 in
     let if3 = c .if3 in
-    add-past (scope (args .op) (args .card .now) (args .root .now) (args .chain .now)) (args .work .now) (args .n) (args .at) (args .len) (args .base) _
-    (room .ensures) (if1 .left) _ _ (word .ensures .0) (word2 .ensures .0) _ (part .ensures) _ _ _ _ (bucket-is _ _ _ _ _ (hash .ensures .0)
-    (bucket-by .ensures))
-    (base-word .ensures .0) (head .ensures .0) (seek-is (scope (args .op) (args .card .now) (args .root .now) (args .chain .now)) (args .work .now) (part .result .now) _ _ _ _ (hash .ensures .0) (seek-by .ensures)) (if2 .left) (if3 .taken)
+    let scoped = scope (args .op) (args .card .now) (args .root .now) (args .chain .now) in
+    add-past scoped (args .work .now) (args .n) (args .at) (args .len) (args .base) _ (room .ensures) (if1 .left) _ _ (word .ensures .0) (word2
+    .ensures .0) _ (part .ensures) _ _ _ _ _ (number .ensures .0) (bucket .ensures) (base-word .ensures .0) (head .ensures .0)
+    (seek .ensures) (if2 .left) (if3 .taken)
 
 mul-named : tie.Need-mul-named
 mul-named c = search needs
@@ -126,17 +125,17 @@ put-requires c κs =
     let word = c .before .before .before .before .before .before .before .before .before .before .before .before .before .word in
     let word2 = c .before .before .before .before .before .before .before .before .before .before .before .before .word2 in
     let part = c .before .before .before .before .before .before .before .before .before .before .before .part in
-    let hash = c .before .before .before .before .before .before .before .before .before .before .hash in
-    let bucket-by = c .before .before .before .before .before .before .before .before .bucket-by in
+    let number = c .before .before .before .before .before .before .before .before .before .before .number in
+    let bucket = c .before .before .before .before .before .before .before .before .bucket in
     let base-word = c .before .before .before .before .before .before .before .base-word in
     let head = c .before .before .before .before .before .head in
-    let seek-by = c .before .before .before .seek-by in
+    let seek = c .before .before .before .seek in
     let if2 = c .before .before .if2 in
     let if3 = c .before .if3 in
-    add-room (scope (args .op) (args .card .now) (args .root .now) (args .chain .now)) (args .work .now) (args .n) (args .at) (args .len) (args .base) _
-    (room .ensures) (if1 .left) _ _ (word .ensures .0) (word2 .ensures .0) _ (part .ensures) _ _ _ _ (bucket-is _ _ _ _ _ (hash .ensures .0)
-    (bucket-by .ensures))
-    (base-word .ensures .0) (head .ensures .0) (seek-is (scope (args .op) (args .card .now) (args .root .now) (args .chain .now)) (args .work .now) (part .result .now) _ _ _ _ (hash .ensures .0) (seek-by .ensures)) (if2 .left) (if3 .left)
+    let scoped = scope (args .op) (args .card .now) (args .root .now) (args .chain .now) in
+    add-room scoped (args .work .now) (args .n) (args .at) (args .len) (args .base) _ (room .ensures) (if1 .left) _ _ (word .ensures .0) (word2
+    .ensures .0) _ (part .ensures) _ _ _ _ _ (number .ensures .0) (bucket .ensures) (base-word .ensures .0) (head .ensures .0)
+    (seek .ensures) (if2 .left) (if3 .left)
 
 add-result-2 : tie.Need-add-result-2
 add-result-2 c = search needs
@@ -155,18 +154,18 @@ returns-4 c =
     let word = c .before .before .before .before .before .before .before .before .before .before .before .before .before .before .before .before .word in
     let word2 = c .before .before .before .before .before .before .before .before .before .before .before .before .before .before .before .word2 in
     let part = c .before .before .before .before .before .before .before .before .before .before .before .before .before .before .part in
-    let hash = c .before .before .before .before .before .before .before .before .before .before .before .before .before .hash in
-    let bucket-by = c .before .before .before .before .before .before .before .before .before .before .before .bucket-by in
+    let number = c .before .before .before .before .before .before .before .before .before .before .before .before .before .number in
+    let bucket = c .before .before .before .before .before .before .before .before .before .before .before .bucket in
     let base-word = c .before .before .before .before .before .before .before .before .before .before .base-word in
     let head = c .before .before .before .before .before .before .before .before .head in
-    let seek-by = c .before .before .before .before .before .before .seek-by in
+    let seek = c .before .before .before .before .before .before .seek in
     let if2 = c .before .before .before .before .before .if2 in
     let if3 = c .before .before .before .before .if3 in
     let put = c .before .before .put in
-    add-new (scope (args .op) (args .card .now) (args .root .now) (args .chain .now)) (args .work .now) (args .n) (args .at) (args .len) (args .base) _
-    (room .ensures) (if1 .left) _ _ (word .ensures .0) (word2 .ensures .0) _ (part .ensures) _ _ _ _ (bucket-is _ _ _ _ _ (hash .ensures .0)
-    (bucket-by .ensures))
-    (base-word .ensures .0) (head .ensures .0) (seek-is (scope (args .op) (args .card .now) (args .root .now) (args .chain .now)) (args .work .now) (part .result .now) _ _ _ _ (hash .ensures .0) (seek-by .ensures)) (if2 .left) (if3 .left) _ (hash .ensures .0) _ (put .ensures)
+    let scoped = scope (args .op) (args .card .now) (args .root .now) (args .chain .now) in
+    add-new scoped (args .work .now) (args .n) (args .at) (args .len) (args .base) _ (room .ensures) (if1 .left) _ _ (word .ensures .0) (word2
+    .ensures .0) _ (part .ensures) _ _ _ _ _ (number .ensures .0) (bucket .ensures) (base-word .ensures .0) (head .ensures .0)
+    (seek .ensures) (if2 .left) (if3 .left) _ (put .ensures)
 
 pub add-spec : {M : Type 1} → statement M
 add-spec =
@@ -178,11 +177,11 @@ add-spec =
     word-requires
     word-requires-2
     part-requires
-    hash-requires
-    bucket-by-requires
+    number-requires
+    bucket-requires
     base-word-requires
     head-requires
-    seek-by-requires
+    seek-requires
     same-length-2
     returns-2
     add-result

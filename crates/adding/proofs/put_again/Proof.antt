@@ -7,7 +7,6 @@ use Rattle.adding.proofs.put_again.Reads as reads
 use Rattle.adding.proofs.put_again.Lts as lts
 use Rattle.adding.proofs.put.Reads as put-reads
 use Rattle.chains.proofs.bucket.Reads as bucket-reads
-use Rattle.wire.proofs.part.Reads as part-reads
 use Rattle.wire.proofs.word.Reads as word-reads
 
 mul-k : tie.Need-mul-k
@@ -40,38 +39,26 @@ slice-read-base c = search needs
 word-requires : tie.Need-word-requires
 word-requires c κs = search needs
 
-word-requires-2 : tie.Need-word-requires-2
-word-requires-2 c κs = search needs
-
-part-requires : tie.Need-part-requires
-part-requires c κs = search needs
-
 bucket-requires : tie.Need-bucket-requires
 bucket-requires c κs = search needs
 
 put-requires : tie.Need-put-requires
 put-requires c κs =
-    let args = c .before .before .before .before .before .before .before .before .before .before .before .args in
-    let word = c .before .before .before .before .before .word in
-    let word2 = c .before .before .before .before .word2 in
-    let part = c .before .before .before .part in
+    let start = c .before .before .before .before .before .before .before .before in
+    let word = c .before .before .word in
     let bucket = c .before .bucket in
-    let pre = c .before .before .before .before .before .before .before .before .before .before .before .pre in
-    again-inside (args .op) (args .card .now) (args .work .now) (args .i) _ _ (word .ensures .0) (word2 .ensures .0) _ (part .ensures) _ (bucket .ensures) pre
+    again-inside (start .args .work .now) (start .args .i) _ (word .ensures .0) _ (bucket .ensures) (start .pre)
 
 same-length : tie.Need-same-length
 same-length c = search needs
 
 returns : tie.Need-returns
 returns c =
-    let args = c .before .before .before .before .before .before .before .before .before .before .before .before .before .before .args in
-    let word = c .before .before .before .before .before .before .before .before .word in
-    let word2 = c .before .before .before .before .before .before .before .word2 in
-    let part = c .before .before .before .before .before .before .part in
+    let start = c .before .before .before .before .before .before .before .before .before .before .before in
+    let word = c .before .before .before .before .before .word in
     let bucket = c .before .before .before .before .bucket in
     let put = c .before .before .put in
-    again-is (args .op) (args .card .now) (args .work .now) (args .i) _ _ (word .ensures .0) (word2 .ensures .0) _ (part .ensures) _ (bucket .ensures) _
-    (put .ensures)
+    again-is (start .args .work .now) (start .args .i) _ (word .ensures .0) _ (bucket .ensures) _ (put .ensures)
 
 pub put-again-spec : {M : Type 1} → statement M
 put-again-spec =
@@ -87,8 +74,6 @@ put-again-spec =
     mul-base
     slice-read-base
     word-requires
-    word-requires-2
-    part-requires
     bucket-requires
     put-requires
     same-length

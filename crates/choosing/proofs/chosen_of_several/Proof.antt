@@ -16,7 +16,7 @@ returns c =
     let args = c .before .before .before .before .before .before .before .args in
     let seek = c .before .seek in
     let if1 = c .if1 in
-    several-prefix (scope (args .op) (args .card .now) (args .root .now) (args .chain .now)) (args .work .now) _ _ _ (seek .ensures)
+    several-prefix (scope (args .op) (args .card .now) (args .root .now) (args .chain .now)) (args .work .now) _ (args .number) _ _ (seek .ensures)
     (if1 .taken)
 
 seek-requires-2 : tie.Need-seek-requires-2
@@ -28,7 +28,7 @@ returns-2 c =
     let seek = c .before .before .seek in
     let if1 = c .before .if1 in
     let seek2 = c .seek2 in
-    several-runtime (scope (args .op) (args .card .now) (args .root .now) (args .chain .now)) (args .work .now) _ _ _ (seek .ensures)
+    several-runtime (scope (args .op) (args .card .now) (args .root .now) (args .chain .now)) (args .work .now) _ (args .number) _ _ (seek .ensures)
     (if1 .left) _ (seek2 .ensures)
 
 pub chosen-of-several-spec : {M : Type 1} → statement M

@@ -81,7 +81,8 @@ returns-3 c =
     let next = c .before .before .next in
     let seek = c .before .seek in
     let if3 = c .if3 in
-    use-later (scope (args .op) (args .card .now) (args .root .now) (args .chain .now)) (args .work .now) _ (if1 .left) _ (room .ensures)
+    let scoped = scope (args .op) (args .card .now) (args .root .now) (args .chain .now) in
+    use-later scoped (args .work .now) _ (if1 .left) _ (room .ensures)
     (if2 .left) _ _ _ (word .ensures .0) (word2 .ensures .0) (part .ensures) _ _ (next .ensures) (seek .ensures) (if3 .taken)
 
 chosen-after-requires : tie.Need-chosen-after-requires
@@ -96,13 +97,13 @@ chosen-after-requires c κs =
     let next = c .before .before .next in
     let seek = c .before .seek in
     let if3 = c .if3 in
-    none-after (scope (args .op) (args .card .now) (args .root .now) (args .chain .now)) (args .work .now) _ (if1 .left) _ (room .ensures)
-    (if2 .left) _ _ _ (word .ensures .0) (word2 .ensures .0) (part .ensures) _ _ (next .ensures) (seek .ensures) (if3 .left)
+    let scoped = scope (args .op) (args .card .now) (args .root .now) (args .chain .now) in
+    none-after scoped (args .work .now) _ (if1 .left) _ (room .ensures) (if2 .left) _ _ _ (word .ensures .0) (word2 .ensures .0)
+    (part .ensures) _ _ (next .ensures) (seek .ensures) (if3 .left)
 
 returns-4 : tie.Need-returns-4
 returns-4 c =
-    let args = c .before .before .before .before .before .before .before .before .before .before .before .before .before .before .before .before .before
-    .args in
+    let args = c .before .before .before .before .before .before .before .before .before .before .before .before .before .before .before .before .before .args in
     let if1 = c .before .before .before .before .before .before .before .before .before .before .before .before .if1 in
     let room = c .before .before .before .before .before .before .before .before .before .before .before .room in
     let if2 = c .before .before .before .before .before .before .before .before .before .before .if2 in
@@ -114,53 +115,49 @@ returns-4 c =
     let if3 = c .before .before .if3 in
     let chosen-after = c .before .chosen-after in
     let if4 = c .if4 in
-    use-none (scope (args .op) (args .card .now) (args .root .now) (args .chain .now)) (args .work .now) _ (if1 .left) _ (room .ensures)
+    let scoped = scope (args .op) (args .card .now) (args .root .now) (args .chain .now) in
+    use-none scoped (args .work .now) _ (if1 .left) _ (room .ensures)
     (if2 .left) _ _ _ (word .ensures .0) (word2 .ensures .0) (part .ensures) _ _ (next .ensures) (seek .ensures) (if3 .left) _
     (chosen-after .ensures) (if4 .taken)
 
 sub-m : tie.Need-sub-m
 sub-m c =
-    let args = c .before .before .before .before .before .before .before .before .before .before .before .before .before .before .before .before .before
-    .args in
+    let args = c .before .before .before .before .before .before .before .before .before .before .before .before .before .before .before .before .before .args in
     let chosen-after = c .before .chosen-after in
     let if4 = c .if4 in
-    let m = chosen-room (scope (args .op) (args .card .now) (args .root .now) (args .chain .now)) (args .work .now) _ _ (chosen-after .ensures) in
+    let m = chosen-room (scope (args .op) (args .card .now) (args .root .now) (args .chain .now)) (args .work .now) _ _ _ (chosen-after .ensures) in
     omega (arith, if4 .left)
 
 mul-m : tie.Need-mul-m
 mul-m c =
-    let args = c .before .before .before .before .before .before .before .before .before .before .before .before .before .before .before .before .before
-    .args in
+    let args = c .before .before .before .before .before .before .before .before .before .before .before .before .before .before .before .before .before .args in
     let chosen-after = c .before .chosen-after in
     let if4 = c .if4 in
-    let m = chosen-room (scope (args .op) (args .card .now) (args .root .now) (args .chain .now)) (args .work .now) _ _ (chosen-after .ensures) in
+    let m = chosen-room (scope (args .op) (args .card .now) (args .root .now) (args .chain .now)) (args .work .now) _ _ _ (chosen-after .ensures) in
     omega (arith, if4 .left)
 
 add-m : tie.Need-add-m
 add-m c =
-    let args = c .before .before .before .before .before .before .before .before .before .before .before .before .before .before .before .before .before
-    .args in
+    let args = c .before .before .before .before .before .before .before .before .before .before .before .before .before .before .before .before .before .args in
     let chosen-after = c .before .chosen-after in
     let if4 = c .if4 in
-    let m = chosen-room (scope (args .op) (args .card .now) (args .root .now) (args .chain .now)) (args .work .now) _ _ (chosen-after .ensures) in
+    let m = chosen-room (scope (args .op) (args .card .now) (args .root .now) (args .chain .now)) (args .work .now) _ _ _ (chosen-after .ensures) in
     omega (arith, if4 .left)
 
 mul-word-3 : tie.Need-mul-word-3
 mul-word-3 c =
-    let args = c .before .before .before .before .before .before .before .before .before .before .before .before .before .before .before .before .before
-    .args in
+    let args = c .before .before .before .before .before .before .before .before .before .before .before .before .before .before .before .before .before .args in
     let chosen-after = c .before .chosen-after in
     let if4 = c .if4 in
-    let m = chosen-room (scope (args .op) (args .card .now) (args .root .now) (args .chain .now)) (args .work .now) _ _ (chosen-after .ensures) in
+    let m = chosen-room (scope (args .op) (args .card .now) (args .root .now) (args .chain .now)) (args .work .now) _ _ _ (chosen-after .ensures) in
     omega (arith, if4 .left)
 
 shared-slice-read-word-3 : tie.Need-shared-slice-read-word-3
 shared-slice-read-word-3 c =
-    let args = c .before .before .before .before .before .before .before .before .before .before .before .before .before .before .before .before .before
-    .before .args in
+    let args = c .before .before .before .before .before .before .before .before .before .before .before .before .before .before .before .before .before .before .args in
     let chosen-after = c .before .before .chosen-after in
     let if4 = c .before .if4 in
-    let m = chosen-room (scope (args .op) (args .card .now) (args .root .now) (args .chain .now)) (args .work .now) _ _ (chosen-after .ensures) in
+    let m = chosen-room (scope (args .op) (args .card .now) (args .root .now) (args .chain .now)) (args .work .now) _ _ _ (chosen-after .ensures) in
     omega (arith, if4 .left)
 
 word-requires-3 : tie.Need-word-requires-3
@@ -171,8 +168,7 @@ same-base-requires c κs = search needs
 
 returns-5 : tie.Need-returns-5
 returns-5 c =
-    let args = c .before .before .before .before .before .before .before .before .before .before .before .before .before .before .before .before .before
-    .before .before .before .before .args in
+    let args = c .before .before .before .before .before .before .before .before .before .before .before .before .before .before .before .before .before .before .before .before .before .args in
     let if1 = c .before .before .before .before .before .before .before .before .before .before .before .before .before .before .before .before .if1 in
     let room = c .before .before .before .before .before .before .before .before .before .before .before .before .before .before .before .room in
     let if2 = c .before .before .before .before .before .before .before .before .before .before .before .before .before .before .if2 in
@@ -187,14 +183,14 @@ returns-5 c =
     let word3 = c .before .before .word3 in
     let same-base = c .before .same-base in
     let if5 = c .if5 in
-    use-prefix (scope (args .op) (args .card .now) (args .root .now) (args .chain .now)) (args .work .now) _ (if1 .left) _ (room .ensures)
+    let scoped = scope (args .op) (args .card .now) (args .root .now) (args .chain .now) in
+    use-prefix scoped (args .work .now) _ (if1 .left) _ (room .ensures)
     (if2 .left) _ _ _ (word .ensures .0) (word2 .ensures .0) (part .ensures) _ _ (next .ensures) (seek .ensures) (if3 .left) _
     (chosen-after .ensures) (if4 .left) _ _ (word3 .ensures .0) (same-base .ensures) (if5 .taken)
 
 returns-6 : tie.Need-returns-6
 returns-6 c =
-    let args = c .before .before .before .before .before .before .before .before .before .before .before .before .before .before .before .before .before
-    .before .before .before .before .args in
+    let args = c .before .before .before .before .before .before .before .before .before .before .before .before .before .before .before .before .before .before .before .before .before .args in
     let if1 = c .before .before .before .before .before .before .before .before .before .before .before .before .before .before .before .before .if1 in
     let room = c .before .before .before .before .before .before .before .before .before .before .before .before .before .before .before .room in
     let if2 = c .before .before .before .before .before .before .before .before .before .before .before .before .before .before .if2 in
@@ -209,7 +205,8 @@ returns-6 c =
     let word3 = c .before .before .word3 in
     let same-base = c .before .same-base in
     let if5 = c .if5 in
-    use-is (scope (args .op) (args .card .now) (args .root .now) (args .chain .now)) (args .work .now) _ (if1 .left) _ (room .ensures)
+    let scoped = scope (args .op) (args .card .now) (args .root .now) (args .chain .now) in
+    use-is scoped (args .work .now) _ (if1 .left) _ (room .ensures)
     (if2 .left) _ _ _ (word .ensures .0) (word2 .ensures .0) (part .ensures) _ _ (next .ensures) (seek .ensures) (if3 .left) _
     (chosen-after .ensures) (if4 .left) _ _ (word3 .ensures .0) (same-base .ensures) (if5 .left)
 

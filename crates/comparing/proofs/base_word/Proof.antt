@@ -7,7 +7,7 @@ use Rattle.comparing.proofs.base_word.Statement.{statement}
 use Rattle.comparing.proofs.base_word.Tie as tie
 use Rattle.comparing.proofs.base_word.Reads as reads
 use Rattle.comparing.proofs.base_word.Lts as lts
-use Rattle.comparing.proofs.hash.Reads as hash-reads
+use Rattle.comparing.proofs.number.Reads as number-reads
 use Rattle.reader.proofs.record_at.Reads as record-at-reads
 
 returns : tie.Need-returns
@@ -18,8 +18,8 @@ returns c =
 record-at-requires : tie.Need-record-at-requires
 record-at-requires c κs = search needs
 
-hash-requires : tie.Need-hash-requires
-hash-requires c κs = search needs
+number-requires : tie.Need-number-requires
+number-requires c κs = search needs
 
 mul-result : tie.Need-mul-result
 mul-result c = search needs
@@ -31,9 +31,9 @@ returns-2 : tie.Need-returns-2
 returns-2 c =
     let if1 = c .before .before .if1 in
     let record-at = c .before .record-at in
-    let hash = c .hash in
-    word-path _ _ _ _ _ _ (omega arith) (if1 .left) refl (record-at .ensures) (hash .ensures)
+    let number = c .number in
+    word-path _ _ _ _ _ _ (omega arith) (if1 .left) refl (record-at .ensures) (number .ensures)
 
 pub base-word-spec : {M : Type 1} → statement M
 base-word-spec =
-    tie.close (tie.spec returns record-at-requires hash-requires mul-result add-result returns-2)
+    tie.close (tie.spec returns record-at-requires number-requires mul-result add-result returns-2)

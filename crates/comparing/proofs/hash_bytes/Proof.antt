@@ -1,29 +1,32 @@
--- `comparing::hash_bytes` meets its contract: what is left of the bytes has the hash of all. Assumes nothing.
-use mathlib.Core.Path.{_≡_, refl}
-use Prim.Native.Nat.{_<_, _≤_, _-_, _^_}
+-- `comparing::hash_bytes` meets its contract: the turns that are left have the hash of all. Assumes nothing.
+use mathlib.Core.Path.{_≡_}
+use Prim.Native.Nat.{_<_, _-_, _^_}
 use native.Mathlib.Omega.{arith}
-use lib.ListN.{length, drop}
+use lib.ListN.{length}
 use borrow.Author.Needs.{needs}
-use Rattle.comparing.specs.Compares.{hashFrom}
-use Rattle.comparing.proofs.Hashes.{mixed-below, hash-fours, hash-few}
+use Rattle.comparing.specs.Compares.{hashFours, hashBytes}
+use Rattle.comparing.proofs.Hashes.{Turns, mixed-below, hash-few, hash-start, hash-next, hash-last}
 use Rattle.comparing.proofs.hash_bytes.Statement.{statement}
 use Rattle.comparing.proofs.hash_bytes.Tie as tie
 use Rattle.comparing.proofs.hash_bytes.Reads as reads
 use Rattle.comparing.proofs.hash_bytes.Lts as lts
-use Rattle.comparing.proofs.hash_rest.Reads as hash-rest-reads
+use Rattle.comparing.proofs.hash_few.Reads as hash-few-reads
 use Rattle.wire.proofs.four.Reads as four-reads
 
 abbrev Inv-loop : tie.InvT-loop
-Inv-loop s h₀ i₀ h i = (i ≤ length s) × (h < 2 ^ 32) × (hashFrom 0 s ≡ hashFrom h (drop i s))
+Inv-loop s n last h₀ at₀ h at = (h < 2 ^ 32) × (hashBytes s ≡ hashFours s (Turns s at) at h)
 
 abbrev μ-loop : tie.MeasureT-loop
-μ-loop s h₀ i₀ h i = length s - i
+μ-loop s n last h₀ at₀ h at = length s - at
+
+hash-few-requires : tie.Need-hash-few-requires Inv-loop μ-loop
+hash-few-requires c κs = search needs
+
+returns : tie.Need-returns Inv-loop μ-loop
+returns c = (hash-few _ _ (c .before .if1 .taken) (c .hash-few .ensures .0), c .hash-few .ensures .1)
 
 loop-holds : tie.Need-loop-holds Inv-loop μ-loop
-loop-holds c = (omega arith, omega arith, refl)
-
-sub-loop : tie.Need-sub-loop Inv-loop μ-loop
-sub-loop c = search needs
+loop-holds c = (omega arith, hash-start _ (c .if1 .left))
 
 mul-h : tie.Need-mul-h Inv-loop μ-loop
 mul-h c = search needs
@@ -34,30 +37,30 @@ four-requires c κs = search needs
 add-h : tie.Need-add-h Inv-loop μ-loop
 add-h c = search needs
 
-add-i : tie.Need-add-i Inv-loop μ-loop
-add-i c = search needs
+add-at : tie.Need-add-at Inv-loop μ-loop
+add-at c = search needs
 
 loop-less : tie.Need-loop-less Inv-loop μ-loop
 loop-less c = search needs
 
 loop-again : tie.Need-loop-again Inv-loop μ-loop
 loop-again c =
-    let args = c .before .before .before .before .args in
     let loop = c .before .before .loop in
-    let loop-test = c .before .loop-test in
-    let four = c .four in
-    (omega arith, mixed-below _ _, hash-fours (args .s .now) _ _ (loop .i) (loop .inv .2) (loop-test .taken) _ (four .ensures .0))
+    (mixed-below _ _, hash-next _ _ _ _ _ (loop .inv .1) (c .before .loop-test .taken) (c .four .ensures .0))
 
-hash-rest-requires : tie.Need-hash-rest-requires Inv-loop μ-loop
-hash-rest-requires c κs = search needs
+mul-result : tie.Need-mul-result Inv-loop μ-loop
+mul-result c = search needs
 
-returns : tie.Need-returns Inv-loop μ-loop
-returns c =
-    let args = c .before .before .before .before .args in
+four-requires-2 : tie.Need-four-requires-2 Inv-loop μ-loop
+four-requires-2 c κs = search needs
+
+add-result : tie.Need-add-result Inv-loop μ-loop
+add-result c = search needs
+
+returns-2 : tie.Need-returns-2 Inv-loop μ-loop
+returns-2 c =
     let loop = c .before .before .loop in
-    let loop-test = c .before .loop-test in
-    let hash-rest = c .hash-rest in
-    (hash-few (args .s .now) _ _ (loop .i) (loop .inv .2) (loop-test .left) _ (hash-rest .ensures .0), hash-rest .ensures .1)
+    (hash-last _ _ _ _ _ (loop .inv .1) (c .before .loop-test .left) (c .four2 .ensures .0), mixed-below _ _)
 
 pub hash-bytes-spec : {M : Type 1} → statement M
 hash-bytes-spec =
@@ -65,13 +68,16 @@ hash-bytes-spec =
     (tie.spec
     Inv-loop
     μ-loop
+    hash-few-requires
+    returns
     loop-holds
-    sub-loop
     mul-h
     four-requires
     add-h
-    add-i
+    add-at
     loop-less
     loop-again
-    hash-rest-requires
-    returns)
+    mul-result
+    four-requires-2
+    add-result
+    returns-2)

@@ -2,7 +2,6 @@
 use mathlib.Core.Path.{refl}
 use Rattle.wire.proofs.Less.{at-least-one}
 use Rattle.prefix.specs.Prefix.{scope}
-use Rattle.chains.proofs.Tests.{bucket-is, seek-is}
 use Rattle.choosing.proofs.Tests.{chosen-none, chosen-only, chosen-several, chosen-room}
 use Rattle.replacement.proofs.Tests.{replaces-none, replaces-base}
 use Rattle.replacement.proofs.Several.{several-gives}
@@ -10,71 +9,71 @@ use borrow.Author.Needs.{needs}
 use Rattle.replacement.proofs.replaces.Statement.{statement}
 use Rattle.replacement.proofs.replaces.Tie as tie
 
-hash-requires : tie.Need-hash-requires
-hash-requires c κs = search needs
+number-requires : tie.Need-number-requires
+number-requires c κs = search needs
 
-bucket-by-requires : tie.Need-bucket-by-requires
-bucket-by-requires c κs = search needs
+bucket-requires : tie.Need-bucket-requires
+bucket-requires c κs = search needs
 
 head-requires : tie.Need-head-requires
 head-requires c κs = search needs
 
-seek-by-requires : tie.Need-seek-by-requires
-seek-by-requires c κs = search needs
+seek-requires : tie.Need-seek-requires
+seek-requires c κs = search needs
 
 returns : tie.Need-returns
 returns c =
     let args = c .before .before .before .before .before .before .before .before .before .before .before .args in
-    let hash = c .before .before .before .before .hash in
-    let bucket-by = c .before .before .before .bucket-by in
+    let number = c .before .before .before .before .number in
+    let bucket = c .before .before .before .bucket in
     let head = c .before .before .head in
-    let seek-by = c .before .seek-by in
+    let seek = c .before .seek in
     let if1 = c .if1 in
     let scoped = scope (args .op) (args .card .now) (args .root .now) (args .chain .now) in
-    replaces-none scoped (args .work .now) (args .name .now) (args .base .now) 0 (chosen-none scoped (args .work .now) (args .name .now) _ _ _
-    (bucket-is _ _ _ _ _ (hash .ensures .0) (bucket-by .ensures)) (head .ensures .0) (seek-is scoped (args .work .now) (args .name .now) _ _ _ _ (hash .ensures .0) (seek-by .ensures))
+    replaces-none scoped (args .work .now) (args .name .now) (args .base .now) _ (number .ensures .0) 0 (chosen-none scoped (args .work .now) (args .name .now) _ _ _ _
+    (bucket .ensures) (head .ensures .0) (seek .ensures)
     (if1 .taken)) refl
 
 next-requires : tie.Need-next-requires
 next-requires c κs = search needs
 
-seek-by-requires-2 : tie.Need-seek-by-requires-2
-seek-by-requires-2 c κs = search needs
+seek-requires-2 : tie.Need-seek-requires-2
+seek-requires-2 c κs = search needs
 
 has-base-requires : tie.Need-has-base-requires
 has-base-requires c κs =
     let args = c .before .before .before .before .before .before .before .before .before .before .before .before .before .before .args in
-    let hash = c .before .before .before .before .before .before .before .hash in
-    let bucket-by = c .before .before .before .before .before .before .bucket-by in
+    let number = c .before .before .before .before .before .before .before .number in
+    let bucket = c .before .before .before .before .before .before .bucket in
     let head = c .before .before .before .before .before .head in
-    let seek-by = c .before .before .before .before .seek-by in
+    let seek = c .before .before .before .before .seek in
     let if1 = c .before .before .before .if1 in
     let next = c .before .before .next in
-    let seek-by2 = c .before .seek-by2 in
+    let seek2 = c .before .seek2 in
     let if2 = c .if2 in
     let scoped = scope (args .op) (args .card .now) (args .root .now) (args .chain .now) in
-    let only = chosen-only scoped (args .work .now) (args .name .now) _ _ _ (bucket-is _ _ _ _ _ (hash .ensures .0) (bucket-by .ensures))
-    (head .ensures .0) (seek-is scoped (args .work .now) (args .name .now) _ _ _ _ (hash .ensures .0) (seek-by .ensures)) (if1 .left) _ _ (next .ensures)
-    (seek-is scoped (args .work .now) (args .name .now) _ _ _ _ (hash .ensures .0) (seek-by2 .ensures)) (if2 .taken) in
-    (at-least-one _ (if1 .left), chosen-room scoped (args .work .now) (args .name .now) _ only)
+    let only = chosen-only scoped (args .work .now) (args .name .now) _ _ _ _ (bucket .ensures)
+    (head .ensures .0) (seek .ensures) (if1 .left) _ _ (next .ensures)
+    (seek2 .ensures) (if2 .taken) in
+    (at-least-one _ (if1 .left), chosen-room scoped (args .work .now) (args .name .now) _ _ only)
 
 returns-2 : tie.Need-returns-2
 returns-2 c =
     let args = c .before .before .before .before .before .before .before .before .before .before .before .before .before .before .before .args in
-    let hash = c .before .before .before .before .before .before .before .before .hash in
-    let bucket-by = c .before .before .before .before .before .before .before .bucket-by in
+    let number = c .before .before .before .before .before .before .before .before .number in
+    let bucket = c .before .before .before .before .before .before .before .bucket in
     let head = c .before .before .before .before .before .before .head in
-    let seek-by = c .before .before .before .before .before .seek-by in
+    let seek = c .before .before .before .before .before .seek in
     let if1 = c .before .before .before .before .if1 in
     let next = c .before .before .before .next in
-    let seek-by2 = c .before .before .seek-by2 in
+    let seek2 = c .before .before .seek2 in
     let if2 = c .before .if2 in
     let has-base = c .has-base in
     let scoped = scope (args .op) (args .card .now) (args .root .now) (args .chain .now) in
-    let only = chosen-only scoped (args .work .now) (args .name .now) _ _ _ (bucket-is _ _ _ _ _ (hash .ensures .0) (bucket-by .ensures))
-    (head .ensures .0) (seek-is scoped (args .work .now) (args .name .now) _ _ _ _ (hash .ensures .0) (seek-by .ensures)) (if1 .left) _ _ (next .ensures)
-    (seek-is scoped (args .work .now) (args .name .now) _ _ _ _ (hash .ensures .0) (seek-by2 .ensures)) (if2 .taken) in
-    replaces-base scoped (args .work .now) (args .name .now) (args .base .now) _ only (if1 .left) _ (has-base .ensures)
+    let only = chosen-only scoped (args .work .now) (args .name .now) _ _ _ _ (bucket .ensures)
+    (head .ensures .0) (seek .ensures) (if1 .left) _ _ (next .ensures)
+    (seek2 .ensures) (if2 .taken) in
+    replaces-base scoped (args .work .now) (args .name .now) (args .base .now) _ (number .ensures .0) _ only (if1 .left) _ (has-base .ensures)
 
 is-prefix-requires : tie.Need-is-prefix-requires
 is-prefix-requires c κs = search needs
@@ -86,13 +85,13 @@ returns-3 : tie.Need-returns-3
 returns-3 c =
     let args = c .before .before .before .before .before .before .before .before .before .before .before .before .before .before .before .before .before
     .before .args in
-    let hash = c .before .before .before .before .before .before .before .before .before .before .before .hash in
-    let bucket-by = c .before .before .before .before .before .before .before .before .before .before .bucket-by in
+    let number = c .before .before .before .before .before .before .before .before .before .before .before .number in
+    let bucket = c .before .before .before .before .before .before .before .before .before .before .bucket in
     let head = c .before .before .before .before .before .before .before .before .before .head in
-    let seek-by = c .before .before .before .before .before .before .before .before .seek-by in
+    let seek = c .before .before .before .before .before .before .before .before .seek in
     let if1 = c .before .before .before .before .before .before .before .if1 in
     let next = c .before .before .before .before .before .before .next in
-    let seek-by2 = c .before .before .before .before .before .seek-by2 in
+    let seek2 = c .before .before .before .before .before .seek2 in
     let if2 = c .before .before .before .before .if2 in
     let is-prefix = c .before .before .before .is-prefix in
     let if3 = c .before .before .if3 in
@@ -100,9 +99,9 @@ returns-3 c =
     let if4 = c .if4 in
     let scoped = scope (args .op) (args .card .now) (args .root .now) (args .chain .now) in
     several-gives scoped (args .work .now) (args .name .now) (args .base .now) _ _ (is-prefix .ensures) (if3 .taken) (is-runtime .ensures) (if4 .taken)
-    (head .result)
-    (chosen-several scoped (args .work .now) (args .name .now) _ _ _ (bucket-is _ _ _ _ _ (hash .ensures .0) (bucket-by .ensures)) (head .ensures .0)
-    (seek-is scoped (args .work .now) (args .name .now) _ _ _ _ (hash .ensures .0) (seek-by .ensures)) (if1 .left) _ _ (next .ensures) (seek-is scoped (args .work .now) (args .name .now) _ _ _ _ (hash .ensures .0) (seek-by2 .ensures)) (if2 .left) _ refl)
+    _ (number .ensures .0) (head .result)
+    (chosen-several scoped (args .work .now) (args .name .now) _ _ _ _ (bucket .ensures) (head .ensures .0)
+    (seek .ensures) (if1 .left) _ _ (next .ensures) (seek2 .ensures) (if2 .left) _ refl)
 
 chosen-requires : tie.Need-chosen-requires
 chosen-requires c κs = search needs
@@ -111,10 +110,11 @@ returns-4 : tie.Need-returns-4
 returns-4 c =
     let args = c .before .before .before .before .before .before .before .before .before .before .before .before .before .before .before .before .before
     .before .args in
+    let number = c .before .before .before .before .before .before .before .before .before .before .before .number in
     let chosen = c .before .chosen in
     let if5 = c .if5 in
     let scoped = scope (args .op) (args .card .now) (args .root .now) (args .chain .now) in
-    replaces-none scoped (args .work .now) (args .name .now) (args .base .now) _ (chosen .ensures) (if5 .taken)
+    replaces-none scoped (args .work .now) (args .name .now) (args .base .now) _ (number .ensures .0) _ (chosen .ensures) (if5 .taken)
 
 has-base-requires-2 : tie.Need-has-base-requires-2
 has-base-requires-2 c κs =
@@ -123,29 +123,30 @@ has-base-requires-2 c κs =
     let chosen = c .before .chosen in
     let if5 = c .if5 in
     let scoped = scope (args .op) (args .card .now) (args .root .now) (args .chain .now) in
-    (at-least-one _ (if5 .left), chosen-room scoped (args .work .now) (args .name .now) _ (chosen .ensures))
+    (at-least-one _ (if5 .left), chosen-room scoped (args .work .now) (args .name .now) _ _ (chosen .ensures))
 
 returns-5 : tie.Need-returns-5
 returns-5 c =
     let args = c .before .before .before .before .before .before .before .before .before .before .before .before .before .before .before .before .before
     .before .before .args in
+    let number = c .before .before .before .before .before .before .before .before .before .before .before .before .number in
     let chosen = c .before .before .chosen in
     let if5 = c .before .if5 in
     let has-base2 = c .has-base2 in
     let scoped = scope (args .op) (args .card .now) (args .root .now) (args .chain .now) in
-    replaces-base scoped (args .work .now) (args .name .now) (args .base .now) _ (chosen .ensures) (if5 .left) _ (has-base2 .ensures)
+    replaces-base scoped (args .work .now) (args .name .now) (args .base .now) _ (number .ensures .0) _ (chosen .ensures) (if5 .left) _ (has-base2 .ensures)
 
 pub replaces-spec : {M : Type 1} → statement M
 replaces-spec =
     tie.close
     (tie.spec
-    hash-requires
-    bucket-by-requires
+    number-requires
+    bucket-requires
     head-requires
-    seek-by-requires
+    seek-requires
     returns
     next-requires
-    seek-by-requires-2
+    seek-requires-2
     has-base-requires
     returns-2
     is-prefix-requires

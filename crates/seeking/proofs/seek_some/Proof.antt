@@ -2,7 +2,7 @@
 use native.Mathlib.Omega.{arith}
 use borrow.Author.Needs.{needs}
 use Rattle.prefix.specs.Prefix.{scope}
-use Rattle.chains.specs.Chains.{isNumbered, mayHave}
+use Rattle.chains.specs.Chains.{isWanted, mayHave}
 use Rattle.chains.proofs.Tests.{Seeking, seek-past, seek-start, seek-none, seek-found, seek-on, next-less, may-wanted}
 use Rattle.seeking.proofs.seek_some.Statement.{statement}
 use Rattle.seeking.proofs.seek_some.Tie as tie
@@ -14,7 +14,7 @@ use Rattle.chains.proofs.room.Reads as room-reads
 use Rattle.seeking.proofs.skip.Reads as skip-reads
 
 abbrev Inv-loop : tie.InvT-loop
-Inv-loop op card root chain work from name number want g₀ g = Seeking (isNumbered (scope op card root chain) work name number want) work from g
+Inv-loop op card root chain work from name number want g₀ g = Seeking (isWanted (scope op card root chain) work name number want) work from g
 
 abbrev μ-loop : tie.MeasureT-loop
 μ-loop op card root chain work from name number want g₀ g = g
@@ -27,7 +27,7 @@ returns c =
     let args = c .before .before .before .before .before .before .before .args in
     let room = c .before .room in
     let if1 = c .if1 in
-    seek-past (isNumbered (scope (args .op) (args .card .now) (args .root .now) (args .chain .now)) (args .work .now) (args .name .now) (args .number) (args .want))
+    seek-past (isWanted (scope (args .op) (args .card .now) (args .root .now) (args .chain .now)) (args .work .now) (args .name .now) (args .number) (args .want))
     (args .work .now) (args .from) _ (room .ensures) (if1 .taken)
 
 loop-holds : tie.Need-loop-holds Inv-loop μ-loop
@@ -36,7 +36,7 @@ loop-holds c =
     let args = start .args in
     let room = c .before .room in
     let if1 = c .if1 in
-    seek-start (isNumbered (scope (args .op) (args .card .now) (args .root .now) (args .chain .now)) (args .work .now) (args .name .now) (args .number) (args .want))
+    seek-start (isWanted (scope (args .op) (args .card .now) (args .root .now) (args .chain .now)) (args .work .now) (args .name .now) (args .number) (args .want))
     (args .work .now) (args .from) _ (room .ensures) (if1 .left)
 
 is-wanted-requires : tie.Need-is-wanted-requires Inv-loop μ-loop
@@ -52,7 +52,7 @@ returns-2 c =
     let loop-test = c .before .before .loop-test in
     let is-wanted = c .before .is-wanted in
     let if2 = c .if2 in
-    seek-found (isNumbered (scope (args .op) (args .card .now) (args .root .now) (args .chain .now)) (args .work .now) (args .name .now) (args .number) (args .want))
+    seek-found (isWanted (scope (args .op) (args .card .now) (args .root .now) (args .chain .now)) (args .work .now) (args .name .now) (args .number) (args .want))
     (args .work .now) (args .from) _ (loop .inv) (loop-test .taken) _ (is-wanted .ensures) (if2 .taken)
 
 next-requires : tie.Need-next-requires Inv-loop μ-loop
@@ -78,7 +78,7 @@ loop-less c =
     let if2 = c .before .before .if2 in
     let next = c .before .next in
     let skip = c .skip in
-    seek-on (mayHave (args .work .now) (args .number) (args .want)) (isNumbered (scope (args .op) (args .card .now) (args .root .now) (args .chain .now))
+    seek-on (mayHave (args .work .now) (args .number) (args .want)) (isWanted (scope (args .op) (args .card .now) (args .root .now) (args .chain .now))
     (args .work .now) (args .name .now) (args .number) (args .want)) (λ i. may-wanted (scope (args .op) (args .card .now) (args .root .now) (args .chain .now))
     (args .work .now) (args .name .now) (args .number) i (args .want)) (args .work .now) (args .from) _ (loop .inv) (loop-test .taken) _
     (is-wanted .ensures) (if2 .left) _ (next .ensures) _ (skip .ensures) .1
@@ -92,7 +92,7 @@ loop-again c =
     let if2 = c .before .before .if2 in
     let next = c .before .next in
     let skip = c .skip in
-    seek-on (mayHave (args .work .now) (args .number) (args .want)) (isNumbered (scope (args .op) (args .card .now) (args .root .now) (args .chain .now))
+    seek-on (mayHave (args .work .now) (args .number) (args .want)) (isWanted (scope (args .op) (args .card .now) (args .root .now) (args .chain .now))
     (args .work .now) (args .name .now) (args .number) (args .want)) (λ i. may-wanted (scope (args .op) (args .card .now) (args .root .now) (args .chain .now))
     (args .work .now) (args .name .now) (args .number) i (args .want)) (args .work .now) (args .from) _ (loop .inv) (loop-test .taken) _
     (is-wanted .ensures) (if2 .left) _ (next .ensures) _ (skip .ensures) .0
@@ -102,7 +102,7 @@ returns-3 c =
     let args = c .before .before .before .before .before .before .before .before .before .args in
     let loop = c .before .loop in
     let loop-test = c .loop-test in
-    seek-none (isNumbered (scope (args .op) (args .card .now) (args .root .now) (args .chain .now)) (args .work .now) (args .name .now) (args .number) (args .want))
+    seek-none (isWanted (scope (args .op) (args .card .now) (args .root .now) (args .chain .now)) (args .work .now) (args .name .now) (args .number) (args .want))
     (args .work .now) (args .from) _ (loop .inv) (loop-test .left)
 
 pub seek-some-spec : {M : Type 1} → statement M

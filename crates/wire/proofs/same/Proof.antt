@@ -3,7 +3,7 @@ use Prim.Native.Nat.{_-_}
 use native.Mathlib.Omega.{arith}
 use lib.ListN.{length}
 use borrow.Author.Needs.{needs}
-use Rattle.wire.proofs.Alike.{Alike, other-length, alike-none, not-eight, alike-eight, alike-last}
+use Rattle.wire.proofs.Alike.{Alike, other-length, alike-none, not-some, alike-some, alike-last}
 use Rattle.wire.proofs.same.Statement.{statement}
 use Rattle.wire.proofs.same.Tie as tie
 
@@ -16,8 +16,8 @@ abbrev μ-loop : tie.MeasureT-loop
 returns : tie.Need-returns Inv-loop μ-loop
 returns c = other-length (c .before .before .before .args .a .now) (c .before .before .before .args .b .now) (c .if1 .taken)
 
-same-few-requires : tie.Need-same-few-requires Inv-loop μ-loop
-same-few-requires c κs = search needs
+same-short-requires : tie.Need-same-short-requires Inv-loop μ-loop
+same-short-requires c κs = search needs
 
 returns-2 : tie.Need-returns-2 Inv-loop μ-loop
 returns-2 c = search needs
@@ -35,7 +35,7 @@ eight-requires-2 c κs = search needs
 
 returns-3 : tie.Need-returns-3 Inv-loop μ-loop
 returns-3 c =
-    not-eight _ _ (c .before .before .before .before .loop .at) _ _ (c .before .before .eight .ensures) (c .before .eight2 .ensures) (c .if3 .taken)
+    not-some 8 _ _ (c .before .before .before .before .loop .at) _ _ (c .before .before .eight .ensures) (c .before .eight2 .ensures) (c .if3 .taken)
 
 add-at : tie.Need-add-at Inv-loop μ-loop
 add-at c = search needs
@@ -47,7 +47,7 @@ loop-again : tie.Need-loop-again Inv-loop μ-loop
 loop-again c =
     let loop = c .before .before .before .before in
     let known = loop .before .before .before in
-    alike-eight _ _ _ (loop .loop .inv) (λ i. known .before .shared-slice-known .given i .fits) (λ i. known .shared-slice-known2 .given i .fits) _ _
+    alike-some _ _ _ (loop .loop .inv) 8 (λ i. known .before .shared-slice-known .given i .fits) (λ i. known .shared-slice-known2 .given i .fits) _ _
     (omega (arith, c .before .before .before .loop-test .taken)) (c .before .before .eight .ensures) (c .before .eight2 .ensures) (c .if3 .left)
 
 eight-requires-3 : tie.Need-eight-requires-3 Inv-loop μ-loop
@@ -60,7 +60,7 @@ returns-4 : tie.Need-returns-4 Inv-loop μ-loop
 returns-4 c =
     let loop = c .before .before .before in
     let known = loop .before .before .before in
-    alike-last _ _ _ (loop .loop .inv) (λ i. known .before .shared-slice-known .given i .fits) (λ i. known .shared-slice-known2 .given i .fits) _ _ _
+    alike-last _ _ _ (loop .loop .inv) 8 (λ i. known .before .shared-slice-known .given i .fits) (λ i. known .shared-slice-known2 .given i .fits) _ _ _
     (c .before .before .loop-test .left) (omega (arith, loop .before .if2 .left)) (c .before .eight3 .ensures) (c .eight4 .ensures)
 
 pub same-spec : {M : Type 1} → statement M
@@ -70,7 +70,7 @@ same-spec =
     Inv-loop
     μ-loop
     returns
-    same-few-requires
+    same-short-requires
     returns-2
     loop-holds
     eight-requires

@@ -1,22 +1,22 @@
--- `comparing::hash_rest` meets its contract: what is left of the bytes has the hash of all from the place on. Assumes nothing.
+-- `comparing::hash_few` meets its contract: what is left of the bytes has the hash of all. Assumes nothing.
 use mathlib.Core.Path.{_≡_, refl}
 use Prim.Native.Nat.{_<_, _-_, _^_}
 use native.Mathlib.Omega.{arith}
 use lib.ListN.{length, drop}
 use borrow.Author.Needs.{needs}
-use Rattle.comparing.specs.Compares.{hashRest}
-use Rattle.comparing.proofs.Hashes.{rest-none, rest-next, mixed-below}
-use Rattle.comparing.proofs.hash_rest.Statement.{statement}
-use Rattle.comparing.proofs.hash_rest.Tie as tie
-use Rattle.comparing.proofs.hash_rest.Reads as reads
-use Rattle.comparing.proofs.hash_rest.Lts as lts
+use Rattle.comparing.specs.Compares.{hashFew}
+use Rattle.comparing.proofs.Hashes.{few-none, few-next, mixed-below}
+use Rattle.comparing.proofs.hash_few.Statement.{statement}
+use Rattle.comparing.proofs.hash_few.Tie as tie
+use Rattle.comparing.proofs.hash_few.Reads as reads
+use Rattle.comparing.proofs.hash_few.Lts as lts
 use Rattle.wire.proofs.wide.Reads as wide-reads
 
 abbrev Inv-loop : tie.InvT-loop
-Inv-loop s from start h₀ i₀ h i = (h < 2 ^ 32) × (hashRest start (drop from s) ≡ hashRest h (drop i s))
+Inv-loop s h₀ i₀ h i = (h < 2 ^ 32) × (hashFew 0 s ≡ hashFew h (drop i s))
 
 abbrev μ-loop : tie.MeasureT-loop
-μ-loop s from start h₀ i₀ h i = length s - i
+μ-loop s h₀ i₀ h i = length s - i
 
 loop-holds : tie.Need-loop-holds Inv-loop μ-loop
 loop-holds c = (omega arith, refl)
@@ -44,16 +44,16 @@ loop-again c =
     let loop-test = c .before .before .loop-test in
     let wide = c .wide in
     let loop = c .before .before .before .loop in
-    (mixed-below _ _, rest-next _ _ _ _ _ _ (loop-test .taken) refl (wide .ensures .0) (loop .inv .1))
+    (mixed-below _ _, few-next _ _ _ _ (loop .inv .1) (loop-test .taken) _ (wide .ensures .0))
 
 returns : tie.Need-returns Inv-loop μ-loop
 returns c =
     let loop-test = c .loop-test in
     let loop = c .before .loop in
-    (rest-none _ _ _ _ (loop-test .left) (loop .inv .1), loop .inv .0)
+    (few-none _ _ _ _ (loop .inv .1) (loop-test .left), loop .inv .0)
 
-pub hash-rest-spec : {M : Type 1} → statement M
-hash-rest-spec =
+pub hash-few-spec : {M : Type 1} → statement M
+hash-few-spec =
     tie.close
     (tie.spec
     Inv-loop

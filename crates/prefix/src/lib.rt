@@ -32,7 +32,7 @@ fn selects(path: &[u8], name: &[u8]) -> bool
         0x13,
         0,
     ];
-    wire::same(&path[..6], &head)
+    wire::same_few(&path[..6], &head)
 }
 
 // Whether the name of module i of a chain stands twice in the prefix.

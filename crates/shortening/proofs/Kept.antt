@@ -3,7 +3,7 @@ use mathlib.Core.Path.{_≡_, refl, sym, ap, _∙_}
 use mathlib.Core.Bool.{cond}
 use mathlib.Core.List.{List, _++_}
 use mathlib.Core.Option.{Option, none, some}
-use Prim.Native.Nat.{ℕ, _+_, _<_, _≤_}
+use Prim.Native.Nat.{ℕ, _+_, _/_, _<_, _≤_}
 use native.Mathlib.Omega.{arith}
 use lib.ListN.{length, take, drop, getD, replicate, length-drop, length-append}
 use lib.Dec.{ltb}
@@ -146,9 +146,10 @@ module _ (pass : Pass) (card root out : Bytes) (bc : (i : ℕ) → getD card i 0
     many-enough = refl
 
     -- neither has more pairs than there is room for
-    pub few-enough : length card ≤ 593 → Enough (replicate 128 0)
-    few-enough l =
-        few-full op card root 2048 admits bc br 32 (omega arith) ∙ sym (few-full op card root 2048 admits bc br 512 (omega arith))
+    pub few-enough : (words : List ℕ) (n : ℕ) → room words ≡ n → length card / 18 ≤ n → n ≤ 512 → Enough words
+    few-enough words n e l m =
+        ap (FullAt op card root 2048 admits bc br) e ∙ few-full op card root 2048 admits bc br n l
+        ∙ sym (few-full op card root 2048 admits bc br 512 (omega arith))
 
     pub alone-kept : (words : List ℕ) → Enough words → (w : Written) (out′ : Bytes) (words′ : List ℕ)
         → output w out′ words′ ≡ wholeOutput op card root words out → (a : Answer) → a ≡ answerOf w (length out′) → Alone pass card root out a out′

@@ -50,6 +50,16 @@ fn shorten_small(pass: Pass, card: &[u8], root: &[u8], out: &mut [u8]) -> Answer
     answer_of(w, out.len())
 }
 
+// By 512 work words: a card of fewer than 2322 bytes has at most 128 pairs. Fewer words are made, and fewer buckets cleared, than a large card needs.
+fn shorten_medium(pass: Pass, card: &[u8], root: &[u8], out: &mut [u8]) -> Answer
+    requires { ⌜ Admitted (now card) (now root) × (length (now card) ≤ 2321) ⌝ }
+    ensures { λ r. ⌜ Alone pass (now (card .entry)) (now (root .entry)) (now (out .entry)) r (now (out .exit)) ⌝ }
+{
+    let mut work: [u32; 512] = [0; 512];
+    let w = measuring::write(operation::plain(pass), card, root, out, &mut work);
+    answer_of(w, out.len())
+}
+
 // By 2048 work words.
 fn shorten_large(pass: Pass, card: &[u8], root: &[u8], out: &mut [u8]) -> Answer
     requires { ⌜ Admitted (now card) (now root) ⌝ }
@@ -73,6 +83,9 @@ pub fn shorten_alone(pass: Pass, card: &[u8], root: &[u8], out: &mut [u8]) -> An
     }
     if card.len() < 594 {
         return shorten_small(pass, card, root, out);
+    }
+    if card.len() < 2322 {
+        return shorten_medium(pass, card, root, out);
     }
     shorten_large(pass, card, root, out)
 }

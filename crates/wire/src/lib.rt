@@ -27,11 +27,13 @@ fn eight(s: &[u8], at: usize) -> usize
     four(s, at) + 4294967296 * four(s, at + 4)
 }
 
-// Whether two slices of one length hold the same bytes, byte by byte.
-fn same_few(a: &[u8], b: &[u8]) -> bool
-    requires { do ⌜ (← ⟦a.len()⟧) ≡ (← ⟦b.len()⟧) ⌝ }
+// Whether two slices hold the same bytes, byte by byte: those of a slice that has just been filled so would have to be waited for if they were read at once.
+pub fn same_few(a: &[u8], b: &[u8]) -> bool
     ensures { λ r. ⌜ r ≡ sameBytes (now (a .entry)) (now (b .entry)) ⌝ }
 {
+    if a.len() != b.len() {
+        return false;
+    }
     let mut i = 0;
     while i < a.len() {
         if a[i] != b[i] {

@@ -52,16 +52,16 @@ cast-t20 c = search needs
 cast-t22 : tie.Need-cast-t22
 cast-t22 c = search needs
 
-slice-aggregate-same : tie.Need-slice-aggregate-same
-slice-aggregate-same c =
+slice-aggregate-same-few : tie.Need-slice-aggregate-same-few
+slice-aggregate-same-few c =
     sym (length-take-le 6 (c .before .before .before .before .before .before .before .before .args .path .now)
     (omega (arith, c .before .before .before .before .before .if1 .left)))
 
-slice-aggregate-same-2 : tie.Need-slice-aggregate-same-2
-slice-aggregate-same-2 c = search needs
+slice-aggregate-same-few-2 : tie.Need-slice-aggregate-same-few-2
+slice-aggregate-same-few-2 c = search needs
 
-same-requires-2 : tie.Need-same-requires-2
-same-requires-2 c κs = search needs
+same-few-requires : tie.Need-same-few-requires
+same-few-requires c κs = search needs
 
 returns-4 : tie.Need-returns-4
 unfolding le
@@ -69,7 +69,7 @@ returns-4 c =
     select-by-head (c .before .before .before .before .before .before .before .before .before .before .args .path .now)
     (c .before .before .before .before .before .before .before .before .before .before .args .name .now)
     (omega (arith, c .before .before .before .before .before .before .before .if1 .left, c .before .before .before .before .before .before .if2 .left)) _
-    (c .before .before .before .before .same .ensures) _ (c .before .before .before .if3 .left) (c .same2 .ensures)
+    (c .before .before .before .before .same .ensures) _ (c .before .before .before .if3 .left) (c .same-few .ensures)
 
 pub selects-spec : {M : Type 1} → statement M
 selects-spec =
@@ -88,7 +88,7 @@ selects-spec =
     cast-t18
     cast-t20
     cast-t22
-    slice-aggregate-same
-    slice-aggregate-same-2
-    same-requires-2
+    slice-aggregate-same-few
+    slice-aggregate-same-few-2
+    same-few-requires
     returns-4)

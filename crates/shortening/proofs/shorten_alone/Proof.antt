@@ -39,17 +39,30 @@ same-length c = search needs
 returns-2 : tie.Need-returns-2
 returns-2 c = search needs
 
-shorten-large-requires : tie.Need-shorten-large-requires
-shorten-large-requires c κs =
-    let admit = c .before .before .before .before .admit in
-    let enum-told = c .before .before .enum-told in
-    sym (admit .ensures) ∙ enum-told .given .1
+shorten-medium-requires : tie.Need-shorten-medium-requires
+shorten-medium-requires c κs =
+    let admit = c .before .before .before .before .before .admit in
+    let enum-told = c .before .before .before .enum-told in
+    let if2 = c .before .if2 in
+    (sym (admit .ensures) ∙ enum-told .given .1, omega (arith, if2 .taken))
 
 same-length-2 : tie.Need-same-length-2
 same-length-2 c = search needs
 
 returns-3 : tie.Need-returns-3
 returns-3 c = search needs
+
+shorten-large-requires : tie.Need-shorten-large-requires
+shorten-large-requires c κs =
+    let admit = c .before .before .before .before .before .admit in
+    let enum-told = c .before .before .before .enum-told in
+    sym (admit .ensures) ∙ enum-told .given .1
+
+same-length-3 : tie.Need-same-length-3
+same-length-3 c = search needs
+
+returns-4 : tie.Need-returns-4
+returns-4 c = search needs
 
 pub shorten-alone-spec : {M : Type 1} → statement M
 shorten-alone-spec =
@@ -62,6 +75,9 @@ shorten-alone-spec =
     shorten-small-requires
     same-length
     returns-2
-    shorten-large-requires
+    shorten-medium-requires
     same-length-2
-    returns-3)
+    returns-3
+    shorten-large-requires
+    same-length-3
+    returns-4)

@@ -1,4 +1,6 @@
 -- `shortening::shorten_small` meets its contract, by the laws of Kept. Assumes nothing.
+use mathlib.Core.Path.{refl}
+use native.Mathlib.Omega.{arith}
 use lib.ListN.{replicate}
 use Rattle.shortening.proofs.Kept.{few-enough, alone-kept}
 use borrow.Author.Needs.{needs}
@@ -33,7 +35,7 @@ returns c =
     (λ i. shared-slice-known2 .given i .fits)
     (pre .0) _ (plain .ensures) (replicate 128 0) (few-enough (args .pass) (args .card .now) (args .root .now) (args .out .now)
     (λ i. shared-slice-known .given i .fits)
-    (λ i. shared-slice-known2 .given i .fits) (pre .0) _ (plain .ensures) (pre .1)) _ _ _ (write .ensures) _ (answer-of .ensures)
+    (λ i. shared-slice-known2 .given i .fits) (pre .0) _ (plain .ensures) (replicate 128 0) 32 refl (omega (arith, pre .1)) (omega arith)) _ _ _ (write .ensures) _ (answer-of .ensures)
 
 pub shorten-small-spec : {M : Type 1} → statement M
 shorten-small-spec =

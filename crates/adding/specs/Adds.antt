@@ -38,7 +38,7 @@ module _ (s : Scope) (words : List ℕ) (at len base : ℕ) where
   abbrev pub nameIn : Bytes
   nameIn = take len (drop (at % 65536) (s .card))
 
-  -- its number, which also stands above its place, and its bucket
+  -- the number of the name, the pair's first word, which has that above the name's place, and the bucket
   abbrev pub numberIn : ℕ
   numberIn = numberOf (s .op) nameIn
 

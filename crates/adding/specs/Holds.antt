@@ -16,7 +16,7 @@ unfoldable pub latest : (ℕ → Bool) → ℕ → ℕ
 latest f zero = 0
 latest f (suc n) = cond (f n) (suc n) (latest f n)
 
--- the bucket of the pair that i pairs stand ahead of, by its number, and whether it is in bucket b
+-- the bucket of the pair that i pairs stand ahead of, by the number of its name in its words, and whether it is in bucket b
 abbrev pub bucketAt : List ℕ → ℕ → ℕ
 bucketAt words i = bucketOf words (numberAt words i)
 

@@ -4,12 +4,13 @@ use mathlib.Core.Bool.{cond}
 use Prim.Native.Nat.{ℕ, zero, suc, _+_, _*_}
 use lib.ListN.{take, drop, getD}
 use lib.Dec.{ltb}
-use Rattle.chains.specs.Chains.{room, numberAt, wordAt, bucketOf}
+use Rattle.chains.specs.Chains.{room, wordAt}
 use Rattle.adding.specs.Adds.{Table, table, started, putPair}
+use Rattle.adding.specs.Holds.{bucketAt}
 
 -- the pair that i pairs stand ahead of, put again where it stands, and n pairs from it on
 unfoldable pub putAgain : List ℕ → ℕ → List ℕ
-putAgain words i = putPair words i (bucketOf words (numberAt words i)) (getD words (4 * i) 0) (getD words (4 * i + 1) 0) (wordAt words i)
+putAgain words i = putPair words i (bucketAt words i) (getD words (4 * i) 0) (getD words (4 * i + 1) 0) (wordAt words i)
 
 unfoldable pub putAgainFrom : List ℕ → ℕ → ℕ → List ℕ
 putAgainFrom words i zero = words

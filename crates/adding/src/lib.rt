@@ -2,7 +2,7 @@
 use chains::Want;
 use operation::Shortening;
 ghost use mathlib.Core.Path.{_≡_};
-ghost use Prim.Native.Nat.{_<_, _^_};
+ghost use Prim.Native.Nat.{_<_};
 ghost use Rattle.prefix.specs.Prefix.{scope};
 ghost use Rattle.chains.specs.Chains.{room};
 ghost use Rattle.adding.specs.Adds.{started, putPair, table, added};
@@ -76,7 +76,8 @@ pub fn add(
     n + 1
 }
 
-// The pair that i pairs stand ahead of stays where it stands, and becomes the newest of its bucket. Its number says which: no name is looked at.
+// The pair that i pairs stand ahead of stays where it stands, and becomes the newest of its bucket. The number of its name, which its
+// words have, says which: no name is looked at.
 fn put_again(work: &mut [u32], i: usize)
     requires { ⌜ i < room (now work) ⌝ }
     ensures { λ r. ⌜ now (work .exit) ≡ putAgain (now (work .entry)) i ⌝ }

@@ -33,12 +33,11 @@ linkAt words i = getD words (4 * i + 3) 0 % 65536
 abbrev pub headAt : List ℕ → ℕ → ℕ
 headAt words i = getD words (4 * i + 3) 0 / 65536
 
--- the bucket of names that have a number, as far among the buckets as the number is among those of a half word
+-- the bucket of names that have a number, of which the lower half counts: as far among the buckets as that is among the numbers of a half word
 unfoldable pub bucketOf : List ℕ → ℕ → ℕ
 bucketOf words number = number % 65536 * room words / 65536
 
--- a bucket's newest pair, and the pair after pair g, by their numbers from 1 on
-
+-- a bucket's newest pair, and the pair after pair g, counted from 1
 unfoldable pub headOf : List ℕ → ℕ → ℕ
 headOf words b = cond (ltb b (room words)) (headAt words b) 0
 
@@ -62,7 +61,7 @@ module _ (s : Scope) where
   unfoldable pub hasNamed : List ℕ → Bytes → Want → ℕ → Bool
   hasNamed words name want i = operationOf (s .op) .sameName (nameAt (s .card) words i) name && hasWanted want (wordAt words i)
 
-  -- the same with the numbers compared first, the pair's with one that is taken for the name's: names with different numbers are different
+  -- the same with the number in the pair's words compared first, with one that is taken for the name's; where both are their names' own nothing is lost by it
   unfoldable pub isWanted : List ℕ → Bytes → ℕ → Want → ℕ → Bool
   isWanted words name number want i = eqb (numberAt words i) number && hasNamed words name want i
 

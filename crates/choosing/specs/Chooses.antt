@@ -10,12 +10,13 @@ use Rattle.chains.specs.declared.Want.the-variants.{Named, Based, Runtime}
 use Rattle.chains.specs.Chains.{room, nameAt, numberAt, wordAt, bucketOf, headOf, nextOf, isWanted, seek}
 
 module _ (s : Scope) (words : List ℕ) where
-  -- among several pairs of a name, by its number, in the chain from pair g on
+  -- among several pairs of a name, which has this number, in the chain from pair g on
   unfoldable pub chosenOfSeveral : Bytes → ℕ → ℕ → ℕ
   chosenOfSeveral name number g =
       let prefix : ℕ = seek (isWanted s words name number (Based 0)) words g in
       cond (ltb 0 prefix) prefix (seek (isWanted s words name number Runtime) words g)
 
+  -- the pair that has the base chosen for a name, which has this number: its only one, else as above
   unfoldable pub chosenPair : Bytes → ℕ → ℕ
   chosenPair name number =
       let first : ℕ = headOf words (bucketOf words number) in

@@ -40,7 +40,7 @@ fn chosen_of_several(
     )
 }
 
-// The pair that has the base chosen for a name, by its number: its only one, else as above.
+// The pair that has the base chosen for a name, which has this number: its only one, else as above.
 pub fn chosen(
     op: Shortening,
     card: &[u8],

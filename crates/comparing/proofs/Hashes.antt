@@ -1,6 +1,6 @@
 -- The hash, byte by byte and four bytes at once. Assumes nothing.
 use mathlib.Core.Path.{_≡_, sym, ap, _∙_}
-use Prim.Native.Nat.{ℕ, suc, _+_, _-_, _/_, _^_, _<_, _≤_}
+use Prim.Native.Nat.{ℕ, suc, _+_, _-_, _/_, _<_, _≤_}
 use native.Mathlib.Omega.{arith}
 use native.Mathlib.Numerals.{add-one}
 use lib.ListN.{length, take, drop, getD, drop-of-length-le}
@@ -9,9 +9,6 @@ use borrow.Author.Tests.{lt-ltb, le-ltb}
 use Rattle.wire.specs.Numbers.{Bytes, num}
 use Rattle.operation.specs.declared.Shortening.{Shortening}
 use Rattle.comparing.specs.Compares.{mixed, hashFew, hashFours, hashBytes, numberOf}
-
-pub mixed-below : (h x : ℕ) → mixed h x < 2 ^ 32
-mixed-below h x = omega arith
 
 module _ (s : Bytes) (h₀ h i : ℕ) (f : h₀ ≡ hashFew h (drop i s)) where
   pub few-next : i < length s → (b : ℕ) → b ≡ getD s i 0 → h₀ ≡ hashFew (mixed h b) (drop (i + 1) s)

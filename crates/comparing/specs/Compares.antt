@@ -24,11 +24,11 @@ unfoldable pub hashFours : Bytes → ℕ → ℕ → ℕ → ℕ
 hashFours s zero at h = mixed h (num (take 4 (drop (length s - 4) s)))
 hashFours s (suc n) at h = hashFours s n (at + 4) (mixed h (num (take 4 (drop at s))))
 
--- by fours where there are as many
+-- by fours where there are four or more: those that begin ahead of the last four, then these
 unfoldable pub hashBytes : Bytes → ℕ
 hashBytes s = cond (ltb (length s) 4) (hashFew 0 s) (hashFours s ((length s - 1) / 4) 0 0)
 
--- the number of a name, and of a path's record: the same where these are the same. The last factor brings every byte to the upper half, which is taken.
+-- the number of a name, and of a path's record, in an operation: the same where these are the same, and under 65536. The last factor brings every byte to the upper half, which is taken.
 unfoldable pub numberOf : Shortening → Bytes → ℕ
 numberOf op s = hashBytes s * 1831565813 % 4294967296 / 65536
 

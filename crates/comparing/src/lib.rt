@@ -3,25 +3,32 @@
 use operation::Shortening;
 ghost use mathlib.Core.Path.{_≡_};
 ghost use Prim.Native.Nat.{_<_, _^_};
-ghost use lib.ListN.{drop};
 ghost use Rattle.operation.specs.Operations.{operationOf, samePaths};
 ghost use Rattle.prefix.specs.Prefix.{scope};
-ghost use Rattle.comparing.specs.Compares.{hashFew, hashBytes, numberOf, baseWord, baseAt, sameBase};
+ghost use Rattle.comparing.specs.Compares.{mixed, hashFew, hashBytes, numberOf, baseWord, baseAt, sameBase};
 
-// The number of a few bytes, one a turn.
+// A hash, and one more number of the sequence.
+fn mix(h: usize, x: usize) -> usize
+    requires { ⌜ (h < 2 ^ 32) × (x < 2 ^ 32) ⌝ }
+    ensures { λ r. ⌜ (r ≡ mixed h x) × (r < 2 ^ 32) ⌝ }
+{
+    (h * 1540483477 + x) % 4294967296
+}
+
+// The hash of a few bytes, one a turn.
 fn hash_few(s: &[u8]) -> usize
     ensures { λ r. ⌜ (r ≡ hashFew 0 (now (s .entry))) × (r < 2 ^ 32) ⌝ }
 {
     let mut h: usize = 0;
     let mut i = 0;
     while i < s.len() {
-        h = (h * 1540483477 + wire::wide(s[i])) % 4294967296;
+        h = mix(h, wire::wide(s[i]));
         i += 1;
     }
     h
 }
 
-// The number of bytes, four a turn: they are one load. The last four end with the bytes: how many are left over is not asked.
+// The hash of bytes, four a turn: they are one load. The last four end with the bytes: how many are left over is not asked.
 fn hash_bytes(s: &[u8]) -> usize
     ensures { λ r. ⌜ (r ≡ hashBytes (now (s .entry))) × (r < 2 ^ 32) ⌝ }
 {
@@ -33,13 +40,13 @@ fn hash_bytes(s: &[u8]) -> usize
     let mut h: usize = 0;
     let mut at = 0;
     while at < last {
-        h = (h * 1540483477 + wire::four(s, at)) % 4294967296;
+        h = mix(h, wire::four(s, at));
         at += 4;
     }
-    (h * 1540483477 + wire::four(s, last)) % 4294967296
+    mix(h, wire::four(s, last))
 }
 
-// The same for names that are the same.
+// The number of a name, under 65536: the same for names that are the same.
 pub fn number(op: Shortening, name: &[u8]) -> usize
     ensures { λ r. ⌜ (r ≡ numberOf op (now (name .entry))) × (r < 65536) ⌝ }
 {

@@ -10,7 +10,7 @@ ghost use Rattle.laying.specs.Lays.{Laid};
 ghost use Rattle.rewriting.specs.Rewrites.{rewrite, parts, kept, function, declaration};
 ghost use Rattle.replacing.specs.Room.{Room};
 
-// The records of a content. One that holds nothing is left, whatever its kind: no call is made for it.
+// The records of a content. One that holds nothing is left, whatever its kind: the ring is not gone round for it.
 fn replace_parts(
     op: Shortening,
     card: &[u8],

@@ -126,7 +126,7 @@ fn skip(work: &[u32], from: usize, number: usize, want: Want) -> usize
     pass(work, from, 2, v / 65536)
 }
 
-// The first pair of the chain from a pair on that has this name, by this number, and what is sought.
+// What `seek` answers, by following the chain.
 fn seek_some(
     op: Shortening,
     card: &[u8],
@@ -156,7 +156,8 @@ fn seek_some(
     0
 }
 
-// The same. Most chains end where they begin: those cost no call.
+// The first pair of the chain from a pair on that has this name, which has this number, and what is sought. Most chains end where they begin: those cost
+// no call.
 pub fn seek(
     op: Shortening,
     card: &[u8],

@@ -27,7 +27,8 @@ fn eight(s: &[u8], at: usize) -> usize
     four(s, at) + 4294967296 * four(s, at + 4)
 }
 
-// Whether two slices hold the same bytes, byte by byte: those of a slice that has just been filled so would have to be waited for if they were read at once.
+// Whether two slices hold the same bytes, byte by byte. For a slice that has just been filled byte by byte this is quicker: several read at once would have to
+// wait until all are stored.
 pub fn same_few(a: &[u8], b: &[u8]) -> bool
     ensures { λ r. ⌜ r ≡ sameBytes (now (a .entry)) (now (b .entry)) ⌝ }
 {
@@ -60,7 +61,7 @@ fn same_short(a: &[u8], b: &[u8]) -> bool
     four(a, last) == four(b, last)
 }
 
-// Whether two slices hold the same bytes. Lengths come first: most names that differ do so there. Then eight bytes are compared at a time,
+// Whether two slices hold the same bytes. Lengths come first: most names that differ do so there. Then, from eight bytes on, eight are compared at a time,
 // and the last eight, of which some may have been compared before.
 pub fn same(a: &[u8], b: &[u8]) -> bool
     ensures { λ r. ⌜ r ≡ sameBytes (now (a .entry)) (now (b .entry)) ⌝ }

@@ -133,6 +133,26 @@ pub fn colliding(count: usize) -> Vec<u8> {
     module("m", &body.collect::<Vec<_>>())
 }
 
+/// So many names of six letters that were searched for until the console's table takes them for one: each has
+/// the number of a name that `crates/comparing` defines, and so one chain has them all. Path types under Global.
+pub fn searched(count: usize) -> Vec<u8> {
+    let four = |name: &[u8]| u32::from_le_bytes([name[0], name[1], name[2], name[3]]);
+    let number = |name: &[u8]| {
+        let sum = four(&name[..4]).wrapping_mul(1540483477).wrapping_add(four(&name[2..]));
+        sum.wrapping_mul(1831565813) >> 16
+    };
+    let letters = |mut i: u32| {
+        [(); 6].map(|()| {
+            let letter = b'a' + (i % 26) as u8;
+            i /= 26;
+            letter
+        })
+    };
+    let names = (0..26u32.pow(6)).map(letters).filter(|name| number(name) == 0x1234);
+    let names: Vec<String> = names.take(count).map(|name| name.map(char::from).iter().collect()).collect();
+    module("m", &[global_types(&names)])
+}
+
 /// A function with so many formals, each a path type with as many types around it as may be.
 pub fn deep_types(formals: usize) -> Vec<u8> {
     let mut draws = Draws(5);

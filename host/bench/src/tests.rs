@@ -87,8 +87,16 @@ fn limits_of_pairs() {
 #[test]
 fn measured_cards() {
     use classes::*;
-    let cards =
-        [least(), small(), one_name(512), nested_modules(200), crowded(), evicting(490, 17), deep_types(50)];
+    let cards = [
+        least(),
+        small(),
+        one_name(512),
+        nested_modules(200),
+        crowded(),
+        evicting(490, 17),
+        searched(512),
+        deep_types(50),
+    ];
     let sized = [1, 4, 16, 32].map(|k| typical(k << 10));
     let accepted = |card: &Vec<u8>, lent, words| {
         Operation::BOTH.into_iter().all(|operation| answer(operation, card, lent, words).is_ok())
@@ -102,6 +110,7 @@ fn measured_cards() {
     assert_eq!([8, 32, 128, 512].map(|n| count(&pairs(n))), [8, 32, 128, 512].map(Ok));
     assert_eq!(count(&one_name(512)), Ok(512));
     assert_eq!(count(&crowded()), Ok(511));
+    assert_eq!(count(&searched(512)), Ok(512));
     assert_eq!([(490, 17), (990, 8)].map(|(own, inner)| count(&evicting(own, inner))), [507, 998].map(Ok));
     assert_eq!(count(&close_bases(800)), Ok(800));
     assert_eq!([128, 512, 700, 1024].map(|n| count(&paths(n))), [128, 512, 700, 1024].map(Ok));

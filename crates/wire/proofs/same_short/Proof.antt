@@ -3,7 +3,7 @@ use Prim.Native.Nat.{ℕ, _-_, _<_}
 use native.Mathlib.Omega.{arith}
 use lib.ListN.{length, getD}
 use borrow.Author.Needs.{needs}
-use Rattle.wire.proofs.Alike.{Alike, alike-none, not-some, alike-some, alike-last}
+use Rattle.wire.proofs.Alike.{alike-none, not-some, alike-some, alike-last}
 use Rattle.wire.proofs.same_short.Statement.{statement}
 use Rattle.wire.proofs.same_short.Tie as tie
 use Rattle.wire.proofs.same_short.Reads as reads

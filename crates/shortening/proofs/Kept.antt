@@ -3,16 +3,17 @@ use mathlib.Core.Path.{_≡_, refl, sym, ap, _∙_}
 use mathlib.Core.Bool.{cond}
 use mathlib.Core.List.{List, _++_}
 use mathlib.Core.Option.{Option, none, some}
-use Prim.Native.Nat.{ℕ, _+_, _/_, _<_, _≤_}
+use Prim.Native.Nat.{ℕ, _+_, _/_, _<_, _≤_, min}
 use native.Mathlib.Omega.{arith}
 use lib.ListN.{length, take, drop, getD, replicate, length-drop, length-append}
-use lib.Dec.{ltb}
-use borrow.Author.Tests.{ltb-false, lt-ltb, le-ltb}
+use lib.Dec.{eqb, ltb}
+use borrow.Author.Tests.{eqb-true, eqb-false, ltb-false, lt-ltb, le-ltb}
 use Rattle.answers.specs.declared.Answer.{Answer}
 use Rattle.answers.specs.declared.Answer.the-variants.{Shortened, FullTable, NoSpace}
 use Rattle.answers.specs.declared.Verdict.{Verdict}
 use Rattle.answers.specs.declared.Verdict.the-variants.{Sound, Refused}
 use Rattle.wire.specs.Numbers.{Bytes}
+use Rattle.wire.proofs.Less.{less}
 use Rattle.wire.proofs.Numbers.{are-bytes}
 use Rattle.rast.specs.Path.{whether}
 use Rattle.rast.specs.Operation.{upstream}
@@ -142,14 +143,13 @@ module _ (pass : Pass) (card root out : Bytes) (bc : (i : ℕ) → getD card i 0
     abbrev Enough : List ℕ → Type 0
     Enough words = FullAt op card root 2048 admits bc br (room words) ≡ FullAt op card root 2048 admits bc br 512
 
-    pub many-enough : Enough own-words
-    many-enough = refl
-
-    -- neither has more pairs than there is room for
-    pub few-enough : (words : List ℕ) (n : ℕ) → room words ≡ n → length card / 18 ≤ n → n ≤ 512 → Enough words
-    few-enough words n e l m =
-        ap (FullAt op card root 2048 admits bc br) e ∙ few-full op card root 2048 admits bc br n l
-        ∙ sym (few-full op card root 2048 admits bc br 512 (omega arith))
+    -- as many pairs as 2048 words have room for, or no fewer than the card can have: neither is full where the other is not
+    pub enough : (words : List ℕ) → min (length card / 18) 512 ≤ room words → room words ≤ 512 → Enough words
+    enough words l m =
+        by-test (eqb (room words) 512) (λ t. ap (FullAt op card root 2048 admits bc br) (eqb-true (room words) 512 t))
+        (λ t. let d = eqb-false (room words) 512 t in
+        let o : room words < 512 = less (room words) 512 m d in
+        few-full op card root 2048 admits bc br (room words) (omega arith) ∙ sym (few-full op card root 2048 admits bc br 512 (omega arith)))
 
     pub alone-kept : (words : List ℕ) → Enough words → (w : Written) (out′ : Bytes) (words′ : List ℕ)
         → output w out′ words′ ≡ wholeOutput op card root words out → (a : Answer) → a ≡ answerOf w (length out′) → Alone pass card root out a out′

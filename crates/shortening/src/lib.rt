@@ -4,8 +4,9 @@ use answers::Verdict;
 use measuring::Written;
 use operation::Pass;
 ghost use mathlib.Core.Path.{_≡_};
-ghost use Prim.Native.Nat.{_≤_};
+ghost use Prim.Native.Nat.{_/_, _≤_, min};
 ghost use lib.ListN.{length};
+ghost use Rattle.chains.specs.Chains.{room};
 ghost use Rattle.shortening.specs.Shortened.{answerOf, Promise, Alone, Admitted};
 
 // The answer to what was measured, with so many bytes lent for the output.
@@ -40,14 +41,22 @@ pub fn shorten(pass: Pass, card: &[u8], root: &[u8], out: &mut [u8], work: &mut 
     answer_of(w, out.len())
 }
 
+// By words that have room for 512 pairs, or for all that the card can have: a pair takes 18 bytes of it.
+fn shorten_by(pass: Pass, card: &[u8], root: &[u8], out: &mut [u8], work: &mut [u32]) -> Answer
+    requires { ⌜ Admitted (now card) (now root) × (min (length (now card) / 18) 512 ≤ room (now work)) × (room (now work) ≤ 512) ⌝ }
+    ensures { λ r. ⌜ Alone pass (now (card .entry)) (now (root .entry)) (now (out .entry)) r (now (out .exit)) ⌝ }
+{
+    let w = measuring::write(operation::plain(pass), card, root, out, work);
+    answer_of(w, out.len())
+}
+
 // By 128 work words: a card of fewer than 594 bytes has at most 32 pairs.
 fn shorten_small(pass: Pass, card: &[u8], root: &[u8], out: &mut [u8]) -> Answer
     requires { ⌜ Admitted (now card) (now root) × (length (now card) ≤ 593) ⌝ }
     ensures { λ r. ⌜ Alone pass (now (card .entry)) (now (root .entry)) (now (out .entry)) r (now (out .exit)) ⌝ }
 {
     let mut work: [u32; 128] = [0; 128];
-    let w = measuring::write(operation::plain(pass), card, root, out, &mut work);
-    answer_of(w, out.len())
+    shorten_by(pass, card, root, out, &mut work)
 }
 
 // By 512 work words: a card of fewer than 2322 bytes has at most 128 pairs. Fewer words are made, and fewer buckets cleared, than a large card needs.
@@ -56,8 +65,7 @@ fn shorten_medium(pass: Pass, card: &[u8], root: &[u8], out: &mut [u8]) -> Answe
     ensures { λ r. ⌜ Alone pass (now (card .entry)) (now (root .entry)) (now (out .entry)) r (now (out .exit)) ⌝ }
 {
     let mut work: [u32; 512] = [0; 512];
-    let w = measuring::write(operation::plain(pass), card, root, out, &mut work);
-    answer_of(w, out.len())
+    shorten_by(pass, card, root, out, &mut work)
 }
 
 // By 2048 work words.
@@ -66,8 +74,7 @@ fn shorten_large(pass: Pass, card: &[u8], root: &[u8], out: &mut [u8]) -> Answer
     ensures { λ r. ⌜ Alone pass (now (card .entry)) (now (root .entry)) (now (out .entry)) r (now (out .exit)) ⌝ }
 {
     let mut work: [u32; 2048] = [0; 2048];
-    let w = measuring::write(operation::plain(pass), card, root, out, &mut work);
-    answer_of(w, out.len())
+    shorten_by(pass, card, root, out, &mut work)
 }
 
 // With work words of its own: what `shorten` answers with 2048. They are made once the card is admitted, and nobody sees them after the call.

@@ -1,4 +1,5 @@
 pub mod Exact
+pub mod Few
 pub mod Listings
 pub mod Meets
 pub mod Rises

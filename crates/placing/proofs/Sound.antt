@@ -24,6 +24,7 @@ use Rattle.rast.proofs.Tests.{by-test}
 use Rattle.factor_paths.specs.Apply.{apply}
 use Rattle.factor_paths.proofs.Named.{shortening-marks}
 use Rattle.factor_paths.proofs.Shapes.{apply-canonical}
+use Rattle.size.proofs.Sizes.{size, encode-size}
 use Rattle.size.proofs.Bound.{card-most}
 use Rattle.outcome.specs.FullTable.{fullTable}
 use Rattle.outcome.specs.Outcome.{admitted}
@@ -31,7 +32,7 @@ use Rattle.outcome.proofs.Accepted.{admitted-sound}
 use Rattle.points.proofs.Demand.{apply-point}
 use Rattle.places.specs.Places.{Entry, entryWords, placesOf}
 use Rattle.places.proofs.Weighed.{weightless, weighed-length}
-use Rattle.places.proofs.Rises.{places-few}
+use Rattle.places.proofs.Few.{card-few}
 use Rattle.places.proofs.Words.{words-length}
 use Rattle.operation.specs.declared.Shortening.{Shortening}
 use Rattle.operation.specs.declared.Pass.{Pass}
@@ -116,6 +117,13 @@ module _ (pass : Pass) (card root : Bytes) (n : ℕ) (sound : admitted (asked pa
       (apply-point (asked pass) (shortening-names (repeats pass)) (shortening-chooses (repeats pass)) (shortening-marks (repeats pass)) (tree root)
       (tree card) (reads .is-card .fits)) (reads .is-card .shallow) l
       (omega (arith, s))
+
+  -- how many entries there can be
+  few : 12 * length Places ≤ length card
+  few =
+      let f = card-few (repeats pass) (tree root) (tree card) (reads .is-card .fits) in
+      let s : length card ≡ size (tree card) = ap length (sym (reads .is-card .encoded)) ∙ encode-size (tree card) in
+      omega (arith, f, s)
 
   -- what each answer leaves
   abbrev pub Chosen : {A : Type 0} → (most : ℕ) → (out : Bytes) (list : List ℕ) → (full : ℕ → A) → (no-room few-words done : A) → A
@@ -203,7 +211,7 @@ module _ (pass : Pass) (card root : Bytes) (n : ℕ) (sound : admitted (asked pa
     room-same : (out : Bytes) → length Whole ≤ length out → length (Whole ++ drop (length Whole) out) ≡ length out
     room-same out l = let a = length-append Whole (drop (length Whole) out) in let b = length-drop (length Whole) out in omega (arith, l, a, b)
 
-    first-sound : (list : List ℕ) (out : Bytes) → length out / 3 ≤ length list → Result words list out (writtenFirst pass card root words list out)
+    first-sound : (list : List ℕ) (out : Bytes) → length card / 6 ≤ length list → Result words list out (writtenFirst pass card root words list out)
     unfolding writtenFirst
     first-sound list out k = go (FullAt (room words)) refl
       where
@@ -226,8 +234,8 @@ module _ (pass : Pass) (card root : Bytes) (n : ℕ) (sound : admitted (asked pa
             (λ t. rw (answer-is, out-is, e, t, t)
             (record { answer-is = rw (e, t); out-is = rw (e, t); list-is = rw (e, t); words-long = written .words-long }))
             (λ t. let l = ltb-false (length out) (length Whole) t in
-            let f = places-few 0 (tree card) Output in
-            let u : ltb (length list) (2 * length Places) ≡ false = le-ltb (length list) (2 * length Places) (omega (arith, l, f, k)) in
+            let f = few in
+            let u : ltb (length list) (2 * length Places) ≡ false = le-ltb (length list) (2 * length Places) (omega (arith, f, k)) in
             let x = words-length Places in
             rw (
               answer-is,
@@ -247,6 +255,6 @@ module _ (pass : Pass) (card root : Bytes) (n : ℕ) (sound : admitted (asked pa
     pub placed-sound : (list : List ℕ) (out : Bytes) → Result words list out (placed pass card root words list out)
     unfolding placed
     placed-sound list out =
-        by-test (leb (length out / 3) (length list))
-        (λ t. rw t (first-sound list out (leb-true (length out / 3) (length list) t)))
+        by-test (leb (length card / 6) (length list))
+        (λ t. rw t (first-sound list out (leb-true (length card / 6) (length list) t)))
         (λ t. rw t (counted-sound list out))

@@ -128,16 +128,16 @@ listed-words card out words list w r list′ e = ap (λ (x : Placing). placing (
     same (Length n) = by-test (ltb (length out) n) (λ t. rw t) (λ t. rw t)
 
 module _ (pass : Pass) (card root out : Bytes) (words list : List ℕ) where
-  pub first-gives : (op : Shortening) → op ≡ plainOf pass → length out / 3 ≤ length list → {w : Written} {out′ : Bytes} {words′ : List ℕ}
+  pub first-gives : (op : Shortening) → op ≡ plainOf pass → length card / 6 ≤ length list → {w : Written} {out′ : Bytes} {words′ : List ℕ}
       → output w out′ words′ ≡ wholeOutput op card root words out
       → {r : Listed} {list′ : List ℕ} → placing r out′ [] list′ ≡ listedAfter card w out′ [] list
       → placing r out′ words′ list′ ≡ placed pass card root words list out
   unfolding placed writtenFirst
   first-gives op p l {w} {out′} {words′} o {r} {list′} x =
-      rw (le-leb (length out / 3) (length list) l)
+      rw (le-leb (length card / 6) (length list) l)
       (listed-words card out′ words′ list w r list′ x ∙ ap (λ (y : Output). listedAfter card (y .answer) (y .out) (y .words) list)
       (o ∙ ap (λ (q : Shortening). wholeOutput q card root words out) p))
 
-  pub counted-gives : length list < length out / 3 → {o : Placing} → o ≡ countedFirst pass card root words list out → o ≡ placed pass card root words list out
+  pub counted-gives : length list < length card / 6 → {o : Placing} → o ≡ countedFirst pass card root words list out → o ≡ placed pass card root words list out
   unfolding placed
-  counted-gives l e = e ∙ rw (lt-leb (length out / 3) (length list) l)
+  counted-gives l e = e ∙ rw (lt-leb (length card / 6) (length list) l)

@@ -1,6 +1,6 @@
--- The output with its list (02, request 1). A list that has a word for every three bytes of the out buffer suffices, since an entry's record has six: the output
--- is then written as without a list, and listed. Else it is measured and counted first, so that 8, 9 and 10 are known before anything is written. Assumes
--- nothing: these are definitions.
+-- The output with its list (02, request 1). A list that has a word for every six bytes of the card suffices (places/proofs/Few): the output is then written as
+-- without a list, and listed. Else it is measured and counted first, so that 8, 9 and 10 are known before anything is written. Assumes nothing: these are
+-- definitions.
 use mathlib.Core.Bool.{cond}
 use mathlib.Core.List.{List}
 use Prim.Native.Nat.{ℕ, _-_, _/_, _%_, _^_}
@@ -72,4 +72,4 @@ module _ (pass : Pass) (card root : Bytes) where
       listedAfter card (o .answer) (o .out) (o .words) list
 
   unfoldable pub placed : (words list : List ℕ) → Bytes → Placing
-  placed words list out = cond (leb (length out / 3) (length list)) (writtenFirst words list out) (countedFirst words list out)
+  placed words list out = cond (leb (length card / 6) (length list)) (writtenFirst words list out) (countedFirst words list out)

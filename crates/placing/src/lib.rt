@@ -120,7 +120,7 @@ pub fn write_places(
     ensures { λ r. ⌜ placing r (now (out .exit)) (now (work .exit)) (now (list .exit))
         ≡ placed pass (now (card .entry)) (now (root .entry)) (now (work .entry)) (now (list .entry)) (now (out .entry)) ⌝ }
 {
-    if out.len() / 3 <= list.len() {
+    if card.len() / 6 <= list.len() {
         let w = measuring::write(operation::plain(pass), card, root, out, work);
         return list_after(w, card, out, list);
     }

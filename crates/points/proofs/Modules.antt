@@ -29,12 +29,12 @@ use Rattle.factor_paths.proofs.Uses.{imports-are, imports-different}
 use Rattle.points.proofs.Walked.{same-node, point-self, walk-point}
 
 -- how many, and which, are put ahead
-count-append : (c d : Records) → count (c ▸▸ d) ≡ count c + count d
+pub count-append : (c d : Records) → count (c ▸▸ d) ≡ count c + count d
 unfolding count _▸▸_
 count-append nil d = omega arith
 count-append (r ▸ c) d = ap suc (count-append c d) ∙ omega arith
 
-count-map : (f : Record → Record) (c : Records) → count (mapAll f c) ≡ count c
+pub count-map : (f : Record → Record) (c : Records) → count (mapAll f c) ≡ count c
 unfolding count mapAll
 count-map f nil = refl
 count-map f (r ▸ c) = ap suc (count-map f c)

@@ -50,6 +50,15 @@ fn shorten_by(pass: Pass, card: &[u8], root: &[u8], out: &mut [u8], work: &mut [
     answer_of(w, out.len())
 }
 
+// By 16 work words: a card of fewer than 90 bytes has at most 4 pairs.
+fn shorten_tiny(pass: Pass, card: &[u8], root: &[u8], out: &mut [u8]) -> Answer
+    requires { ⌜ Admitted (now card) (now root) × (length (now card) ≤ 89) ⌝ }
+    ensures { λ r. ⌜ Alone pass (now (card .entry)) (now (root .entry)) (now (out .entry)) r (now (out .exit)) ⌝ }
+{
+    let mut work: [u32; 16] = [0; 16];
+    shorten_by(pass, card, root, out, &mut work)
+}
+
 // By 128 work words: a card of fewer than 594 bytes has at most 32 pairs.
 fn shorten_small(pass: Pass, card: &[u8], root: &[u8], out: &mut [u8]) -> Answer
     requires { ⌜ Admitted (now card) (now root) × (length (now card) ≤ 593) ⌝ }
@@ -87,6 +96,9 @@ pub fn shorten_alone(pass: Pass, card: &[u8], root: &[u8], out: &mut [u8]) -> An
         Verdict::Refused(a) => {
             return a;
         }
+    }
+    if card.len() < 90 {
+        return shorten_tiny(pass, card, root, out);
     }
     if card.len() < 594 {
         return shorten_small(pass, card, root, out);

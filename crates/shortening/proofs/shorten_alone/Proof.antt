@@ -26,8 +26,8 @@ returns c =
     (λ i. shared-slice-known2 .given i .fits) _
     (admit .ensures) _ (v .given .1)
 
-shorten-small-requires : tie.Need-shorten-small-requires
-shorten-small-requires c κs =
+shorten-tiny-requires : tie.Need-shorten-tiny-requires
+shorten-tiny-requires c κs =
     let admit = c .before .before .before .before .admit in
     let enum-told = c .before .before .enum-told in
     let if1 = c .before .if1 in
@@ -39,8 +39,8 @@ same-length c = search needs
 returns-2 : tie.Need-returns-2
 returns-2 c = search needs
 
-shorten-medium-requires : tie.Need-shorten-medium-requires
-shorten-medium-requires c κs =
+shorten-small-requires : tie.Need-shorten-small-requires
+shorten-small-requires c κs =
     let admit = c .before .before .before .before .before .admit in
     let enum-told = c .before .before .before .enum-told in
     let if2 = c .before .if2 in
@@ -52,17 +52,30 @@ same-length-2 c = search needs
 returns-3 : tie.Need-returns-3
 returns-3 c = search needs
 
-shorten-large-requires : tie.Need-shorten-large-requires
-shorten-large-requires c κs =
-    let admit = c .before .before .before .before .before .admit in
-    let enum-told = c .before .before .before .enum-told in
-    sym (admit .ensures) ∙ enum-told .given .1
+shorten-medium-requires : tie.Need-shorten-medium-requires
+shorten-medium-requires c κs =
+    let admit = c .before .before .before .before .before .before .admit in
+    let enum-told = c .before .before .before .before .enum-told in
+    let if3 = c .before .if3 in
+    (sym (admit .ensures) ∙ enum-told .given .1, omega (arith, if3 .taken))
 
 same-length-3 : tie.Need-same-length-3
 same-length-3 c = search needs
 
 returns-4 : tie.Need-returns-4
 returns-4 c = search needs
+
+shorten-large-requires : tie.Need-shorten-large-requires
+shorten-large-requires c κs =
+    let admit = c .before .before .before .before .before .before .admit in
+    let enum-told = c .before .before .before .before .enum-told in
+    sym (admit .ensures) ∙ enum-told .given .1
+
+same-length-4 : tie.Need-same-length-4
+same-length-4 c = search needs
+
+returns-5 : tie.Need-returns-5
+returns-5 c = search needs
 
 pub shorten-alone-spec : {M : Type 1} → statement M
 shorten-alone-spec =
@@ -72,12 +85,15 @@ shorten-alone-spec =
     enum-told
     enum-known-v
     returns
-    shorten-small-requires
+    shorten-tiny-requires
     same-length
     returns-2
-    shorten-medium-requires
+    shorten-small-requires
     same-length-2
     returns-3
-    shorten-large-requires
+    shorten-medium-requires
     same-length-3
-    returns-4)
+    returns-4
+    shorten-large-requires
+    same-length-4
+    returns-5)

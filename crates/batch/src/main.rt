@@ -80,7 +80,7 @@ fn least(a: usize, b: usize) -> usize
 // The call with work words of its own.
 fn alone(pass: Pass, card: &[u8], root: &[u8], out: &mut [u8]) -> Answer {
     memory::fill(out);
-    shortening::shorten_alone(pass, card, root, out)
+    shortening_alone::shorten_alone(pass, card, root, out)
 }
 
 // Whether what is answered with 2048 work words may be answered otherwise with so many: 8, where these have room for more pairs.

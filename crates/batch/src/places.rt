@@ -81,7 +81,7 @@ fn called(
 fn alone(pass: Pass, card: &[u8], root: &[u8], out: &mut [u8], list: &mut [u32]) -> Listed {
     memory::fill(out);
     memory::fill_words(list);
-    shortening_places::shorten_places_alone(pass, card, root, out, list)
+    shortening_places_alone::shorten_places_alone(pass, card, root, out, list)
 }
 
 fn are_same(r: Listed, s: Listed) -> bool {

@@ -20,7 +20,7 @@ pub fn shorten(pass: Pass, card: &[u8], root: &[u8], out: &mut [u8], work: &mut 
 pub fn shorten_alone(pass: Pass, card: &[u8], root: &[u8], out: &mut [u8]) -> u64
     ensures { λ r. ⌜ PackedAlone pass (now (card .entry)) (now (root .entry)) (now (out .entry)) r (now (out .exit)) ⌝ }
 {
-    answers::packed(shortening::shorten_alone(pass, card, root, out))
+    answers::packed(shortening_alone::shorten_alone(pass, card, root, out))
 }
 
 // An answer with the number of entries of its list, which is put into a lent word; a refusal leaves that.
@@ -67,7 +67,7 @@ pub fn shorten_places_alone(
         r (now (out .exit)) (now (list .exit)) (now (entries .exit)) ⌝ }
 {
     pack(
-        shortening_places::shorten_places_alone(pass, card, root, out, list),
+        shortening_places_alone::shorten_places_alone(pass, card, root, out, list),
         entries,
     )
 }

@@ -1,12 +1,12 @@
 -- HOW MANY ENTRIES A LIST CAN HAVE, by the card alone: at most one for every twelve bytes. A path type or a path expression that is shortened has 24; it brings one
 -- entry, and what it is charged pays for the entries of its module's uses, of which each has 37 bytes. Assumes nothing.
 use mathlib.Core.Path.{_≡_, refl, sym, ap, subst, _∙_}
-use mathlib.Core.Bool.{Bool, true, false, _&&_, cond, and-false}
-use mathlib.Core.List.{List, [], _∷_, _++_}
+use mathlib.Core.Bool.{Bool, true, false, _&&_, and-false}
+use mathlib.Core.List.{List, [], _∷_}
 use Prim.Native.Nat.{ℕ, zero, suc, _+_, _*_, _≤_}
 use native.Mathlib.Omega.{arith}
 use lib.ListN.{length, length-append}
-use lib.Dec.{eqb, leb, ltb}
+use lib.Dec.{eqb, leb}
 use borrow.Author.Tests.{eqb-true, lt-ltb, le-ltb}
 use Rattle.records.specs.Record.{Record, Records, leaf, node, nil, _▸_, _▸▸_, children, encode, count, mapAll, setNth, nth, deep, is}
 use Rattle.records.specs.Kinds.{kinds, mod′, these, any, rowOf, contentAt}
@@ -14,11 +14,11 @@ use Rattle.records.proofs.Fits.{Fits, FitsAll}
 use Rattle.records.proofs.Run.{_⨾_}
 use Rattle.records.proofs.Leaves.{node-at, these-no-bytes}
 use Rattle.records.proofs.ByRow.{by-row, by-kind, by-seq}
-use Rattle.rast.specs.Path.{Name, Path, MSel, whether}
+use Rattle.rast.specs.Path.{Name, Path, MSel}
 use Rattle.rast.specs.Operation.{Operation, nested, shortening}
 use Rattle.rast.specs.Mod.{nameOf}
 use Rattle.rast.proofs.Tests.{by-test, by-option, one-of}
-use Rattle.factor_paths.specs.Mapping.{Mapping, FinalReplacement, get, equal, ToUseStatements}
+use Rattle.factor_paths.specs.Mapping.{FinalReplacement, get, equal, ToUseStatements}
 use Rattle.factor_paths.specs.PathsVisitor.{marked, unmarked}
 use Rattle.factor_paths.specs.Apply.{replaces, Identifier, ReplaceExprSingle, mappings, pathsToRemove, imports, applyPrefix, apply}
 use Rattle.factor_paths.specs.Walk.{Step, aType, anExpr, aFn, left, holds, stepOf, deeper, synonyms, wrap, walk, walkAll, walkFn, walkDecl}

@@ -49,7 +49,7 @@ use Rattle.listing.specs.Lists.{cardPlaces}
 use Rattle.listing.proofs.Sound.{listing-card}
 use Rattle.measuring.specs.declared.Written.the-variants.{Full, Length}
 use Rattle.measuring.specs.Measured.{wholeOutput}
-use Rattle.measuring.proofs.Sound.{Result as Unweighed, whole-sound}
+use Rattle.measuring.proofs.Sound.{Result as Unweighed, few-full as unweighed-few, whole-sound}
 use Rattle.modules.specs.Modules.{moduleMade, cardMade}
 use Rattle.modules.proofs.States.{found}
 use Rattle.modules.proofs.Outermost.{Outermost, Reads, admitted-reads, outermost-is}
@@ -117,6 +117,10 @@ module _ (pass : Pass) (card root : Bytes) (n : ℕ) (sound : admitted (asked pa
       (apply-point (asked pass) (shortening-names (repeats pass)) (shortening-chooses (repeats pass)) (shortening-marks (repeats pass)) (tree root)
       (tree card) (reads .is-card .fits)) (reads .is-card .shallow) l
       (omega (arith, s))
+
+  -- no table has more pairs than the card has 18 bytes
+  pub few-full : (most : ℕ) → length card / 18 ≤ most → FullAt most ≡ none
+  few-full most h = rw (pass-plain pass) at (unweighed-few (plainOf pass) card root n plain-sound bc br most h)
 
   -- how many entries there can be
   few : 12 * length Places ≤ length card

@@ -3,17 +3,16 @@ use mathlib.Core.Path.{_≡_, refl, sym, ap, _∙_}
 use mathlib.Core.Bool.{cond}
 use mathlib.Core.List.{List, _++_}
 use mathlib.Core.Option.{Option, none, some}
-use Prim.Native.Nat.{ℕ, _+_, _/_, _<_, _≤_, min}
+use Prim.Native.Nat.{ℕ, _+_, _<_, _≤_}
 use native.Mathlib.Omega.{arith}
 use lib.ListN.{length, take, drop, getD, replicate, length-drop, length-append}
-use lib.Dec.{eqb, ltb}
-use borrow.Author.Tests.{eqb-true, eqb-false, ltb-false, lt-ltb, le-ltb}
+use lib.Dec.{ltb}
+use borrow.Author.Tests.{ltb-false, lt-ltb, le-ltb}
 use Rattle.answers.specs.declared.Answer.{Answer}
 use Rattle.answers.specs.declared.Answer.the-variants.{Shortened, FullTable, NoSpace}
 use Rattle.answers.specs.declared.Verdict.{Verdict}
 use Rattle.answers.specs.declared.Verdict.the-variants.{Sound, Refused}
 use Rattle.wire.specs.Numbers.{Bytes}
-use Rattle.wire.proofs.Less.{less}
 use Rattle.wire.proofs.Numbers.{are-bytes}
 use Rattle.rast.specs.Path.{whether}
 use Rattle.rast.specs.Operation.{upstream}
@@ -33,11 +32,11 @@ use Rattle.work.proofs.Lent.{most, words-all}
 use Rattle.measuring.specs.declared.Written.{Written}
 use Rattle.measuring.specs.declared.Written.the-variants.{Full, Length}
 use Rattle.measuring.specs.Measured.{output, wholeOutput}
-use Rattle.measuring.proofs.Sound.{FullAt, Bytes′, Result, few-full, whole-sound}
-use Rattle.shortening.specs.Shortened.{answerOf, outcome, Promise, Answered, Alone, Admitted}
+use Rattle.measuring.proofs.Sound.{FullAt, Bytes′, Result, whole-sound}
+use Rattle.shortening.specs.Shortened.{answerOf, outcome, Promise, Answered}
 
 -- an outcome that is the definition's keeps the promise
-promised : (pass : Pass) (card root out : Bytes) (work : List ℕ) (a : Answer) (out′ : Bytes) (work′ : List ℕ) → ((i : ℕ) → getD card i 0 < 256) →
+pub promised : (pass : Pass) (card root out : Bytes) (work : List ℕ) (a : Answer) (out′ : Bytes) (work′ : List ℕ) → ((i : ℕ) → getD card i 0 < 256) →
     ((i : ℕ) → getD root i 0 < 256)
     → outcome a out′ work′ ≡ shorten (asked pass) card root out work → Promise pass card root out work a out′ work′
 promised pass card root out work a out′ work′ bc br e =
@@ -83,7 +82,7 @@ module _ (op : Shortening) (weightless : weightOf op ≡ 0) (card root out : Byt
         (λ t. rw (t, room-same (ltb-false (length out) (length Whole) t), t)))
     is-outcome (some place) q = rw (out-is (some place) q, answer-is (some place) q, is-sound, q)
 
-    made : outcome (answerOf w (length out′)) out′ (replicate (length work) 0) ≡ shorten (operationOf op) card root out work
+    pub made : outcome (answerOf w (length out′)) out′ (replicate (length work) 0) ≡ shorten (operationOf op) card root out work
     made = is-outcome Place refl
 
 -- a card refused, by any pass
@@ -127,37 +126,6 @@ answered p =
       names = p .names;
       bound = p .bound;
     }
-
--- by words of its own
-abbrev own-words : List ℕ
-own-words = replicate 2048 0
-
-module _ (pass : Pass) (card root out : Bytes) (bc : (i : ℕ) → getD card i 0 < 256) (br : (i : ℕ) → getD root i 0 < 256) where
-  pub alone-refused : (v : Verdict) → v ≡ admitted upstream card root 2048 → (a : Answer) → v ≡ Refused a → Alone pass card root out a out
-  alone-refused v e a h = answered (refused pass card root out own-words bc br v e a h)
-
-  module _ (is-admitted : Admitted card root) (op : Shortening) (p : op ≡ plainOf pass) where
-    pub admits : admitted (operationOf op) card root 2048 ≡ Sound
-    admits = admitted-alike (repeats (passOf op)) card root 2048 ∙ is-admitted
-
-    abbrev Enough : List ℕ → Type 0
-    Enough words = FullAt op card root 2048 admits bc br (room words) ≡ FullAt op card root 2048 admits bc br 512
-
-    -- as many pairs as 2048 words have room for, or no fewer than the card can have: neither is full where the other is not
-    pub enough : (words : List ℕ) → min (length card / 18) 512 ≤ room words → room words ≤ 512 → Enough words
-    enough words l m =
-        by-test (eqb (room words) 512) (λ t. ap (FullAt op card root 2048 admits bc br) (eqb-true (room words) 512 t))
-        (λ t. let d = eqb-false (room words) 512 t in
-        let o : room words < 512 = less (room words) 512 m d in
-        few-full op card root 2048 admits bc br (room words) (omega arith) ∙ sym (few-full op card root 2048 admits bc br 512 (omega arith)))
-
-    pub alone-kept : (words : List ℕ) → Enough words → (w : Written) (out′ : Bytes) (words′ : List ℕ)
-        → output w out′ words′ ≡ wholeOutput op card root words out → (a : Answer) → a ≡ answerOf w (length out′) → Alone pass card root out a out′
-    alone-kept words n w out′ words′ o a f =
-        answered
-        (promised pass card root out own-words a out′ own-words bc br
-        (rw f (made op (ap weightOf p ∙ plain-weight pass) card root out own-words bc br admits words n w out′ words′ o
-        ∙ ap (λ (q : Pass). shorten (asked q) card root out own-words) (ap passOf p ∙ pass-plain pass))))
 
 -- the answer, case by case
 pub answer-full : (w : Written) (place lent : ℕ) → w ≡ Full place → FullTable place ≡ answerOf w lent

@@ -29,7 +29,7 @@ use Rattle.placing.proofs.Sound.{Whole, Places, FullAt, Result, placed-sound}
 use Rattle.shortening_places.specs.Placed.{Promise, Answered, Alone}
 
 -- what is answered is the definition's, so it keeps the promise
-promised : (pass : Pass) (card root out : Bytes) (work list : List ℕ) (r : Listed) (out′ : Bytes) (work′ list′ : List ℕ) → ((i : ℕ) → getD card i 0 < 256)
+pub promised : (pass : Pass) (card root out : Bytes) (work list : List ℕ) (r : Listed) (out′ : Bytes) (work′ list′ : List ℕ) → ((i : ℕ) → getD card i 0 < 256)
     → ((i : ℕ) → getD root i 0 < 256) → listing (r .answer) (r .entries) out′ work′ list′ ≡ shortenListing (asked pass) card root out work list
     → Promise pass card root out work list r out′ work′ list′
 promised pass card root out work list r out′ work′ list′ bc br e =
@@ -42,10 +42,11 @@ promised pass card root out work list r out′ work′ list′ bc br e =
           (list-exact (repeats pass) card root out work list (are-bytes card bc) (are-bytes root br) n (ap (λ (x : Listing). x .answer) (sym e) ∙ h));
     }
 
--- what is written of a card that is admitted, by words that have room for as many pairs as there may be
+-- what is written of a card that is admitted, by words that have room for as many pairs as there may be, or for all that the card can have
 module _ (pass : Pass) (card root out : Bytes) (work list : List ℕ) (bc : (i : ℕ) → getD card i 0 < 256) (br : (i : ℕ) → getD root i 0 < 256)
     (is-sound : admitted (asked pass) card root (length work) ≡ Sound) (words : List ℕ)
-    (enough : room words ≡ upstream .mostPairs (length work))
+    (enough : FullAt pass card root (length work) is-sound bc br (room words)
+    ≡ FullAt pass card root (length work) is-sound bc br (upstream .mostPairs (length work)))
     (r : Listed) (out′ : Bytes) (words′ list′ : List ℕ) (o : placing r out′ words′ list′ ≡ placed pass card root words list out) where
   result : Result pass card root (length work) is-sound bc br words list out (placing r out′ words′ list′)
   result = rw o (placed-sound pass card root (length work) is-sound bc br words list out)
@@ -77,14 +78,16 @@ module _ (pass : Pass) (card root out : Bytes) (work list : List ℕ) (bc : (i :
 
     module _ (r : Listed) (out′ : Bytes) (words list′ : List ℕ) (o : placing r out′ words list′ ≡ placed pass card root (take used work) list out) where
       words-long : length words ≡ length (take used work)
-      words-long = result pass card root out work list bc br is-sound (take used work) (most work used u) r out′ words list′ o .words-long
+      words-long = result pass card root out work list bc br is-sound (take used work)
+          (ap (FullAt pass card root (length work) is-sound bc br) (most work used u)) r out′ words list′ o .words-long
 
       pub kept : (work′ : List ℕ) → work′ ≡ replicate (length (words ++ drop used work)) 0
           → Promise pass card root out work list r out′ work′ list′
       kept work′ z =
           promised pass card root out work list r out′ work′ list′ bc br
           (rw (z ∙ ap (λ (n : ℕ). replicate n 0) (words-all work used u words words-long))
-          (made pass card root out work list bc br is-sound (take used work) (most work used u) r out′ words list′ o))
+          (made pass card root out work list bc br is-sound (take used work)
+          (ap (FullAt pass card root (length work) is-sound bc br) (most work used u)) r out′ words list′ o))
 
 -- what is promised of all that is lent is promised of all but the work words
 pub answered : {pass : Pass} {card root out : Bytes} {work list : List ℕ} {r : Listed} {out′ : Bytes} {work′ list′ : List ℕ}
@@ -100,20 +103,3 @@ answered p =
       bound = p .bound;
       exact = p .exact;
     }
-
--- by words of its own
-abbrev own-words : List ℕ
-own-words = replicate 2048 0
-
-module _ (pass : Pass) (card root out : Bytes) (list : List ℕ) (bc : (i : ℕ) → getD card i 0 < 256) (br : (i : ℕ) → getD root i 0 < 256)
-    (v : Verdict) (e : v ≡ admitted upstream card root 2048) where
-  pub alone-refused : (a : Answer) → v ≡ Refused a → Alone pass card root out list (record { answer = a; entries = 0 }) out list
-  alone-refused a h =
-      answered (refused pass card root out own-words list bc br v e a h)
-
-  pub alone-kept : v ≡ Sound → (r : Listed) (out′ : Bytes) (words list′ : List ℕ) → placing r out′ words list′ ≡ placed pass card root own-words list out
-      → Alone pass card root out list r out′ list′
-  alone-kept h r out′ words list′ o =
-      answered
-      (promised pass card root out own-words list r out′ own-words list′ bc br
-      (made pass card root out own-words list bc br (admitted-alike (repeats pass) card root 2048 ∙ sym e ∙ h) own-words refl r out′ words list′ o))

@@ -1,9 +1,9 @@
-// The public call with a lent list of places. And the same with work words of its own.
+// The public call with a lent list of places.
 use answers::Answer;
 use answers::Verdict;
 use operation::Pass;
 use placing::Listed;
-ghost use Rattle.shortening_places.specs.Placed.{Promise, Alone};
+ghost use Rattle.shortening_places.specs.Placed.{Promise};
 
 // A quarter as many pairs as there are work words may stand in a table, and at most 1024.
 pub fn shorten_places(
@@ -31,28 +31,4 @@ pub fn shorten_places(
     let r = placing::write_places(pass, card, root, out, &mut work[..used], list);
     work::clear(work);
     r
-}
-
-// With work words of its own: what `shorten_places` answers with 2048. They are made once the card is admitted, and nobody sees them after the call.
-pub fn shorten_places_alone(
-    pass: Pass,
-    card: &[u8],
-    root: &[u8],
-    out: &mut [u8],
-    list: &mut [u32],
-) -> Listed
-    ensures { λ r. ⌜ Alone pass (now (card .entry)) (now (root .entry)) (now (out .entry)) (now (list .entry)) r (now (out .exit)) (now (list .exit)) ⌝ }
-{
-    let v = admission::admit(card, root, 2048);
-    match v {
-        Verdict::Sound => {}
-        Verdict::Refused(a) => {
-            return Listed {
-                answer: a,
-                entries: 0,
-            };
-        }
-    }
-    let mut work: [u32; 2048] = [0; 2048];
-    placing::write_places(pass, card, root, out, &mut work, list)
 }

@@ -1,10 +1,10 @@
--- `shortening::shorten_alone` meets its contract, by the laws of Kept. Assumes nothing.
+-- `shortening_alone::shorten_alone` meets its contract, by the laws of Own. Assumes nothing.
 use mathlib.Core.Path.{sym, _∙_}
 use native.Mathlib.Omega.{arith}
-use Rattle.shortening.proofs.Kept.{alone-refused}
+use Rattle.shortening_alone.proofs.Own.{alone-refused}
 use borrow.Author.Needs.{needs}
-use Rattle.shortening.proofs.shorten_alone.Statement.{statement}
-use Rattle.shortening.proofs.shorten_alone.Tie as tie
+use Rattle.shortening_alone.proofs.shorten_alone.Statement.{statement}
+use Rattle.shortening_alone.proofs.shorten_alone.Tie as tie
 
 admit-requires : tie.Need-admit-requires
 admit-requires c κs = search needs

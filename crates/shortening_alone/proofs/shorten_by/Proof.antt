@@ -1,8 +1,8 @@
--- `shortening::shorten_by` meets its contract, by the laws of Kept. Assumes nothing.
-use Rattle.shortening.proofs.Kept.{enough, alone-kept}
+-- `shortening_alone::shorten_by` meets its contract, by the laws of Own. Assumes nothing.
+use Rattle.shortening_alone.proofs.Own.{alone-kept}
 use borrow.Author.Needs.{needs}
-use Rattle.shortening.proofs.shorten_by.Statement.{statement}
-use Rattle.shortening.proofs.shorten_by.Tie as tie
+use Rattle.shortening_alone.proofs.shorten_by.Statement.{statement}
+use Rattle.shortening_alone.proofs.shorten_by.Tie as tie
 
 plain-requires : tie.Need-plain-requires
 plain-requires c κs = search needs
@@ -29,9 +29,7 @@ returns c =
     let write = c .before .before .before .before .before .write in
     let answer-of = c .answer-of in
     alone-kept (args .pass) (args .card .now) (args .root .now) (args .out .now) (λ i. known .given i .fits) (λ i. known2 .given i .fits) (start .pre .0)
-    _ (plain .ensures) (args .work .now) (enough (args .pass) (args .card .now) (args .root .now) (args .out .now) (λ i. known .given i .fits)
-    (λ i. known2 .given i .fits) (start .pre .0) _ (plain .ensures) (args .work .now) (start .pre .1) (start .pre .2)) _ _ _ (write .ensures) _
-    (answer-of .ensures)
+    _ (plain .ensures) (args .work .now) (start .pre .1) (start .pre .2) _ _ _ (write .ensures) _ (answer-of .ensures)
 
 pub shorten-by-spec : {M : Type 1} → statement M
 shorten-by-spec =

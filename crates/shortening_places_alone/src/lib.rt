@@ -23,30 +23,12 @@ fn shorten_by(
     placing::write_places(pass, card, root, out, work, list)
 }
 
-// By 16 work words: a card of fewer than 90 bytes has at most 4 pairs.
-fn shorten_tiny(pass: Pass, card: &[u8], root: &[u8], out: &mut [u8], list: &mut [u32]) -> Listed
-    requires { ⌜ Admitted (now card) (now root) × (length (now card) ≤ 89) ⌝ }
-    ensures { λ r. ⌜ Alone pass (now (card .entry)) (now (root .entry)) (now (out .entry)) (now (list .entry)) r (now (out .exit)) (now (list .exit)) ⌝ }
-{
-    let mut work: [u32; 16] = [0; 16];
-    shorten_by(pass, card, root, out, &mut work, list)
-}
-
 // By 128 work words: a card of fewer than 594 bytes has at most 32 pairs.
 fn shorten_small(pass: Pass, card: &[u8], root: &[u8], out: &mut [u8], list: &mut [u32]) -> Listed
     requires { ⌜ Admitted (now card) (now root) × (length (now card) ≤ 593) ⌝ }
     ensures { λ r. ⌜ Alone pass (now (card .entry)) (now (root .entry)) (now (out .entry)) (now (list .entry)) r (now (out .exit)) (now (list .exit)) ⌝ }
 {
     let mut work: [u32; 128] = [0; 128];
-    shorten_by(pass, card, root, out, &mut work, list)
-}
-
-// By 512 work words: a card of fewer than 2322 bytes has at most 128 pairs.
-fn shorten_medium(pass: Pass, card: &[u8], root: &[u8], out: &mut [u8], list: &mut [u32]) -> Listed
-    requires { ⌜ Admitted (now card) (now root) × (length (now card) ≤ 2321) ⌝ }
-    ensures { λ r. ⌜ Alone pass (now (card .entry)) (now (root .entry)) (now (out .entry)) (now (list .entry)) r (now (out .exit)) (now (list .exit)) ⌝ }
-{
-    let mut work: [u32; 512] = [0; 512];
     shorten_by(pass, card, root, out, &mut work, list)
 }
 
@@ -79,14 +61,8 @@ pub fn shorten_places_alone(
             };
         }
     }
-    if card.len() < 90 {
-        return shorten_tiny(pass, card, root, out, list);
-    }
     if card.len() < 594 {
         return shorten_small(pass, card, root, out, list);
-    }
-    if card.len() < 2322 {
-        return shorten_medium(pass, card, root, out, list);
     }
     shorten_large(pass, card, root, out, list)
 }

@@ -23,8 +23,8 @@ returns c =
     alone-refused (args .pass) (args .card .now) (args .root .now) (args .out .now) (args .list .now) (λ i. known2 .before .shared-slice-known .given i .fits)
     (λ i. known2 .shared-slice-known2 .given i .fits) _ (admit .admit .ensures) _ (c .before .v .given .1)
 
-shorten-tiny-requires : tie.Need-shorten-tiny-requires
-shorten-tiny-requires c κs =
+shorten-small-requires : tie.Need-shorten-small-requires
+shorten-small-requires c κs =
     let test = c .before .before in
     let told = test .before in
     (sym (told .before .before .admit .ensures) ∙ told .enum-told .given .1, omega (arith, test .if1 .taken))
@@ -38,11 +38,10 @@ same-length-2 c = search needs
 returns-2 : tie.Need-returns-2
 returns-2 c = search needs
 
-shorten-small-requires : tie.Need-shorten-small-requires
-shorten-small-requires c κs =
-    let test = c .before .before in
-    let told = test .before .before in
-    (sym (told .before .before .admit .ensures) ∙ told .enum-told .given .1, omega (arith, test .if2 .taken))
+shorten-large-requires : tie.Need-shorten-large-requires
+shorten-large-requires c κs =
+    let told = c .before .before .before in
+    sym (told .before .before .admit .ensures) ∙ told .enum-told .given .1
 
 same-length-3 : tie.Need-same-length-3
 same-length-3 c = search needs
@@ -53,35 +52,6 @@ same-length-4 c = search needs
 returns-3 : tie.Need-returns-3
 returns-3 c = search needs
 
-shorten-medium-requires : tie.Need-shorten-medium-requires
-shorten-medium-requires c κs =
-    let test = c .before .before in
-    let told = test .before .before .before in
-    (sym (told .before .before .admit .ensures) ∙ told .enum-told .given .1, omega (arith, test .if3 .taken))
-
-same-length-5 : tie.Need-same-length-5
-same-length-5 c = search needs
-
-same-length-6 : tie.Need-same-length-6
-same-length-6 c = search needs
-
-returns-4 : tie.Need-returns-4
-returns-4 c = search needs
-
-shorten-large-requires : tie.Need-shorten-large-requires
-shorten-large-requires c κs =
-    let told = c .before .before .before .before .before in
-    sym (told .before .before .admit .ensures) ∙ told .enum-told .given .1
-
-same-length-7 : tie.Need-same-length-7
-same-length-7 c = search needs
-
-same-length-8 : tie.Need-same-length-8
-same-length-8 c = search needs
-
-returns-5 : tie.Need-returns-5
-returns-5 c = search needs
-
 pub shorten-places-alone-spec : {M : Type 1} → statement M
 shorten-places-alone-spec =
     tie.close
@@ -90,19 +60,11 @@ shorten-places-alone-spec =
     enum-told
     enum-known-v
     returns
-    shorten-tiny-requires
+    shorten-small-requires
     same-length
     same-length-2
     returns-2
-    shorten-small-requires
+    shorten-large-requires
     same-length-3
     same-length-4
-    returns-3
-    shorten-medium-requires
-    same-length-5
-    same-length-6
-    returns-4
-    shorten-large-requires
-    same-length-7
-    same-length-8
-    returns-5)
+    returns-3)

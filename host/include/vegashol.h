@@ -71,7 +71,7 @@ uint64_t vegashol_shorten(const uint8_t *card, size_t card_length, const uint8_t
 uint64_t vegashol_shorten_work(const uint8_t *card, size_t card_length, const uint8_t *root, size_t root_length,
                                uint8_t *out, size_t out_length, uint32_t *work, size_t work_length);
 
-/* The same with a list of places. A word for every three bytes of out always suffices. */
+/* The same with a list of places. A word for every six bytes of the card always suffices, and nothing is counted first. */
 uint64_t vegashol_shorten_places(const uint8_t *card, size_t card_length, const uint8_t *root, size_t root_length,
                                  uint8_t *out, size_t out_length, uint32_t *list, size_t list_length,
                                  uint32_t *entries);

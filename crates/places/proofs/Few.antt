@@ -1,5 +1,5 @@
--- HOW MANY ENTRIES A LIST CAN HAVE, by the card alone: at most one for every twelve bytes. A path type or a path expression that is shortened has 24; it brings one
--- entry, and what it is charged pays for the entries of its module's uses, of which each has 37 bytes. Assumes nothing.
+-- HOW MANY ENTRIES A LIST CAN HAVE, by the card alone: at most one for every twelve bytes. A path type or a path expression that is shortened has at
+-- least 24; it brings one entry, and what it is charged pays for the entries of its module's uses, of which each has at least 37 bytes. Assumes nothing.
 use mathlib.Core.Path.{_≡_, refl, sym, ap, subst, _∙_}
 use mathlib.Core.Bool.{Bool, true, false, _&&_, and-false}
 use mathlib.Core.List.{List, [], _∷_}
@@ -88,7 +88,7 @@ unfolding placesOf synonyms
 wrapped-one at zero n c = let e = ap length (unchanged at (node 0x2D c)) in omega arith
 wrapped-one at (suc w) n c = omega arith
 
--- of entries, what is charged and how many bytes there are
+-- twelve bytes for each entry, all of it times 37: so much of what is charged pays for a use's entry
 abbrev Enough : ℕ → ℕ → ℕ → Type 0
 Enough entries charged bytes = 444 * entries + 12 * charged ≤ 37 * bytes
 
@@ -259,7 +259,8 @@ module _ (again : Bool) where
         rw (one-more at d made c (mapAll (walkDecl O rep f S) c) (sym (count-map (walkDecl O rep f S) c))) (omega arith))
 
   -- a Mod: what its paths are charged pays for its uses
-  mod-few : (n : ℕ) → Few (applyPrefix O n) → (m : Record) (S : Path) (h : ModFields m) (at : ℕ) → 444 * entries at m (applyPrefix O (suc n) m S) ≤ 37 * size m
+  mod-few : (n : ℕ) → Few (applyPrefix O n) → (m : Record) (S : Path) (h : ModFields m) (at : ℕ)
+      → 444 * entries at m (applyPrefix O (suc n) m S) ≤ 37 * size m
   unfolding size imports
   mod-few n few m S h at =
       let rep = pathsToRemove O m S in

@@ -1,5 +1,5 @@
--- The output with its list (02, request 1). A list that has a word for every six bytes of the card suffices (places/proofs/Few): the output is then written as
--- without a list, and listed. Else it is measured and counted first, so that 8, 9 and 10 are known before anything is written. Assumes nothing: these are
+-- The output with its list (02, request 1). A list that has a word for every six bytes of a sound card suffices (places/proofs/Few): the output is then written
+-- as without a list, and listed. Else it is measured and counted first, so that 8, 9 and 10 are known before anything is written. Assumes nothing: these are
 -- definitions.
 use mathlib.Core.Bool.{cond}
 use mathlib.Core.List.{List}

@@ -7,7 +7,7 @@ ghost use lib.ListN.{length};
 ghost use Rattle.chains.specs.Chains.{room};
 ghost use Rattle.shortening.specs.Shortened.{Alone, Admitted};
 
-// By words that have room for 512 pairs, or for all that the card can have: a pair takes 18 bytes of it.
+// By words that have room for all the pairs that the card can have, or for 512, and for no more than 512. A pair takes 18 bytes of a card.
 fn shorten_by(pass: Pass, card: &[u8], root: &[u8], out: &mut [u8], work: &mut [u32]) -> Answer
     requires { ⌜ Admitted (now card) (now root) × (min (length (now card) / 18) 512 ≤ room (now work)) × (room (now work) ≤ 512) ⌝ }
     ensures { λ r. ⌜ Alone pass (now (card .entry)) (now (root .entry)) (now (out .entry)) r (now (out .exit)) ⌝ }

@@ -2,7 +2,7 @@
 use mathlib.Core.Path.{_≡_, refl, sym, ap, _∙_}
 use mathlib.Core.List.{List, _++_}
 use mathlib.Core.Option.{Option, none, some}
-use Prim.Native.Nat.{ℕ, _+_, _*_, _<_}
+use Prim.Native.Nat.{ℕ, _*_, _<_}
 use lib.ListN.{length, take, drop, getD, replicate}
 use lib.Dec.{ltb}
 use borrow.Author.Tests.{ne-eqb}
@@ -26,7 +26,7 @@ use Rattle.chains.specs.Chains.{room}
 use Rattle.placing.specs.declared.Listed.{Listed}
 use Rattle.placing.specs.Placing.{placing, placed}
 use Rattle.placing.proofs.Sound.{Whole, Places, FullAt, Result, placed-sound}
-use Rattle.shortening_places.specs.Placed.{Promise, Answered, Alone}
+use Rattle.shortening_places.specs.Placed.{Promise, Answered}
 
 -- what is answered is the definition's, so it keeps the promise
 pub promised : (pass : Pass) (card root out : Bytes) (work list : List ℕ) (r : Listed) (out′ : Bytes) (work′ list′ : List ℕ) → ((i : ℕ) → getD card i 0 < 256)

@@ -38,6 +38,6 @@ pub record Answered (pass : Pass) (card root : Bytes) (due : Listing) (r : Liste
 abbrev pub called : Pass → (card root out : Bytes) → List ℕ → Listing
 called pass card root out list = shortenListing (asked pass) card root out (replicate 2048 0) list
 
--- what a call with work words of its own promises
+-- what a call with work words of its own promises; they may be fewer
 abbrev pub Alone : Pass → (card root out : Bytes) → List ℕ → Listed → Bytes → List ℕ → Type 0
 Alone pass card root out list r out′ list′ = Answered pass card root (called pass card root out list) r out′ list′

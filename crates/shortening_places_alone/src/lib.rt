@@ -8,7 +8,7 @@ ghost use Rattle.chains.specs.Chains.{room};
 ghost use Rattle.shortening.specs.Shortened.{Admitted};
 ghost use Rattle.shortening_places.specs.Placed.{Alone};
 
-// By words that have room for 512 pairs, or for all that the card can have: a pair takes 18 bytes of it.
+// By words that have room for all the pairs that the card can have, or for 512, and for no more than 512. A pair takes 18 bytes of a card.
 fn shorten_by(
     pass: Pass,
     card: &[u8],

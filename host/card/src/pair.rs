@@ -41,8 +41,9 @@ impl Shortening {
     pub fn of(&self, card: &[u8]) -> Result<Pair, Box<Refused>> {
         let reading = records::read(card);
         // So much that lent memory is never what a card is refused for.
-        let mut out = vec![0; vegashol::MOST_TIMES * card.len().min(vegashol::MOST_CARD)];
-        let mut list = vec![0; out.len() / 3 + 2];
+        let bytes = card.len().min(vegashol::MOST_CARD);
+        let mut out = vec![0; vegashol::MOST_TIMES * bytes];
+        let mut list = vec![0; bytes / 6];
         let mut work = vec![0; vegashol::MOST_WORK];
         let call = if self.straight { vegashol::straight_places_work } else { vegashol::shorten_places_work };
         let listed = match call(card, &self.root, &mut out, &mut work, &mut list) {

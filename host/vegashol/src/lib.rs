@@ -132,8 +132,8 @@ pub fn shorten_work<'o>(
 
 /// [`shorten`] with a list of places: every shortened name and every use put in, at its offset in the output.
 ///
-/// Refused by short list too, if the list has fewer than two words for each place. A word for every three bytes of the out buffer
-/// always suffices.
+/// Refused by short list too, if the list has fewer than two words for each place. A word for every six bytes of the card always
+/// suffices, and spares the call counting the places before it writes.
 ///
 /// ```
 /// use vegashol::{Mark, Place};

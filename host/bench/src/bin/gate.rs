@@ -1,6 +1,6 @@
 //! Writes what the programs batch, test_apply and shorten are run on, and what they should write: the files stdin
 //! and stdout of a folder.
-use compare::cards::CRATE;
+use compare::cards::{self, CRATE};
 use compare::stated::{self, Stated};
 use compare::text::{self, digits, Vector};
 use compare::{own, tree, Operation, LANDED, MOST_CARD, MOST_ENTRIES, MOST_TIMES, WORDS};
@@ -211,6 +211,28 @@ fn put_own(lines: &mut Lines, operation: Operation, cases: Vec<own::Case>) -> Re
     Ok(())
 }
 
+/// Cards with as many pairs as their bytes allow, at the lengths that decide how many work words a call brings; and one with as many places
+/// as its bytes allow, with lists around a word for every six bytes.
+fn put_dense(lines: &mut Lines, operation: Operation) -> Result<(), String> {
+    let case = |sort, card| of_own(operation, own::Case { sort, root: CRATE.to_vec(), card, words: WORDS });
+    for bytes in [89, 90, 593, 594, 2321, 2322] {
+        // An ExternMod in a module takes 19 bytes with a name of one, the module around them 30 and its own name.
+        let pairs = (bytes - 31) / 19;
+        let body: Vec<_> =
+            (1..=pairs).map(|name| cards::nested(cards::extern_module([name as u8]))).collect();
+        lines.put_case(&case("dense pairs", cards::module("m".repeat(bytes - 30 - 19 * pairs), &body))?);
+    }
+    let names: Vec<_> = (b'a'..=b'z').map(|name| format!("::{}", name as char)).collect();
+    let names: Vec<_> = names.iter().map(String::as_str).collect();
+    let dense = case("dense places", cards::module("", &[cards::types(&names)]))?;
+    let enough = dense.card.len() / 6;
+    for lent in [dense.list.len(), enough - 1, enough] {
+        lines.put_case(&Vector { lent: Some(lent), ..dense.clone() });
+    }
+    lines.put_case(&short_list(&dense));
+    Ok(())
+}
+
 /// Cases of straight shortening whose answers are stated, the cards of `compare::own`, a card whose own use is
 /// that of the pass, and lines that are no such cases; of what tells the operations apart the old one's too.
 fn put_straight(lines: &mut Lines) -> Result<(), String> {
@@ -269,6 +291,9 @@ fn batch(vectors: &str, folder: &str) -> Result<(), String> {
     put_alike(&mut lines, stated::nameless);
     put_vectors(&mut lines, 5..=LANDED);
     put_alike(&mut lines, stated::full_tables);
+    for operation in Operation::BOTH {
+        put_dense(&mut lines, operation)?;
+    }
     lines.write(folder)
 }
 

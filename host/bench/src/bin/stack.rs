@@ -9,9 +9,41 @@ use yardstick::classes;
 const PAINTED: usize = 256 << 10;
 const PAINT: u8 = 0xA7;
 
-/// Bytes of the out buffer, and words of a list that surely suffices for it: nothing is measured for this one.
+/// Bytes of the out buffer.
 const OUT: usize = 1 << 20;
-const LONGER: usize = OUT / 3 + 2;
+
+/// A list that is lent, if any: one that surely suffices for a card, or one that has just the words for its places, which are counted
+/// first.
+#[derive(Clone, Copy)]
+enum List {
+    None,
+    Long,
+    Just,
+}
+
+impl List {
+    fn words(self, operation: Operation, card: &[u8]) -> Option<usize> {
+        match self {
+            List::None => None,
+            List::Long => Some(LONG),
+            List::Just => {
+                let (mut out, mut list, mut entries) = (vec![0; OUT], vec![0; LONG], 0);
+                let words = &mut vec![0; 4096];
+                console::shorten_places(
+                    operation,
+                    card,
+                    &cards::CRATE,
+                    &mut out,
+                    Some(words),
+                    &mut list,
+                    &mut entries,
+                )
+                .expect("a card that is accepted");
+                Some(2 * entries as usize)
+            }
+        }
+    }
+}
 
 /// A module in a module, as deep as may be.
 fn nested(times: usize) -> Vec<u8> {
@@ -65,8 +97,8 @@ fn main() {
         ("512 pairs, 2,048 words lent", classes::pairs(512), Some(WORDS)),
         ("1,024 pairs, 4,096 words lent", classes::close_pairs(1024), Some(4096)),
     ];
-    // With a list of so many words, or without one.
-    let lists = [("without a list", None), ("with a list", Some(LONG)), ("with a longer one", Some(LONGER))];
+    let lists =
+        [("without a list", List::None), ("with a list", List::Long), ("with just enough", List::Just)];
     print!("{:29}", "bytes of stack");
     lists.iter().for_each(|(what, _)| print!("  {what:>18}"));
     print!("\n{:29}", "card");
@@ -76,7 +108,7 @@ fn main() {
         print!("{what:29}");
         for (_, list) in lists {
             for operation in Operation::BOTH {
-                let card = card.clone();
+                let (card, list) = (card.clone(), list.words(operation, &card));
                 let run = move || {
                     // All that is lent lies outside the stack.
                     let lend = |count| vec![0; count];

@@ -2,7 +2,7 @@
 use mathlib.Core.Path.{_≡_, refl, sym, ap, subst, _∙_}
 use mathlib.Core.Bool.{Bool, cond}
 use mathlib.Core.List.{List}
-use Prim.Native.Nat.{ℕ, _+_, _*_, _<_, _≤_}
+use Prim.Native.Nat.{ℕ, _+_, _*_, _<_}
 use native.Mathlib.Omega.{arith}
 use lib.ListN.{length, take, getD}
 use lib.Dec.{eqb, ltb}
@@ -15,14 +15,12 @@ use Rattle.wire.specs.Numbers.{Bytes, AreBytes}
 use Rattle.wire.proofs.Numbers.{are-bytes}
 use Rattle.records.specs.Record.{tree}
 use Rattle.rast.proofs.Tests.{by-test}
-use Rattle.factor_paths.specs.Apply.{apply}
-use Rattle.size.proofs.Bound.{card-most}
 use Rattle.outcome.specs.Outcome.{Outcome, admitted, shorten}
 use Rattle.outcome.proofs.Accepted.{admitted-sound, refused-number}
 use Rattle.places.specs.Places.{Entry}
 use Rattle.places.specs.Spots.{ListExact}
 use Rattle.places.specs.Listing.{Listing, places, shortenListing}
-use Rattle.places.proofs.Rises.{places-few}
+use Rattle.places.proofs.Few.{card-few}
 use Rattle.operation.specs.declared.Pass.{Pass}
 use Rattle.operation.specs.Passes.{repeats, asked}
 use Rattle.placing.specs.declared.Listed.{Listed}
@@ -66,10 +64,9 @@ module _ (pass : Pass) (card root out : Bytes) (work list : List ℕ) (b : AreBy
       go (Refused a) e = rw (e, ne-eqb (number a) 0 (refused-number (asked pass) card root (length work) a e)) (omega arith)
       go Sound e =
           let s = admitted-sound (asked pass) card root (length work) e in
-          let l = card-most (repeats pass) (tree root) card b (s .card-sound) in
+          let f = card-few (repeats pass) (tree root) card b (s .card-sound) in
           let m = s .card-length in
-          let f = places-few 0 (tree card) (apply (asked pass) (tree root) (tree card)) in
-          entries-most (omega (arith, l, m, f))
+          entries-most (omega (arith, f, m))
 
   answer-whole : packed (L .answer) ≡ number (L .answer) * 4294967296 + value (L .answer)
   answer-whole = packed-plain (L .answer) value-whole

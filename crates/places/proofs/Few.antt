@@ -8,12 +8,16 @@ use native.Mathlib.Omega.{arith}
 use lib.ListN.{length, length-append}
 use lib.Dec.{eqb, leb}
 use borrow.Author.Tests.{eqb-true, lt-ltb, le-ltb}
-use Rattle.records.specs.Record.{Record, Records, leaf, node, nil, _▸_, _▸▸_, children, encode, count, mapAll, setNth, nth, deep, is}
+use Rattle.answers.specs.declared.Verdict.the-variants.{Sound}
+use Rattle.wire.specs.Numbers.{Bytes, AreBytes}
+use Rattle.records.specs.Record.{Record, Records, leaf, node, nil, _▸_, _▸▸_, children, encode, count, mapAll, setNth, nth, deep, is, tree}
 use Rattle.records.specs.Kinds.{kinds, mod′, these, any, rowOf, contentAt}
+use Rattle.records.specs.Reading.{reading}
 use Rattle.records.proofs.Fits.{Fits, FitsAll}
 use Rattle.records.proofs.Run.{_⨾_}
 use Rattle.records.proofs.Leaves.{node-at, these-no-bytes}
 use Rattle.records.proofs.ByRow.{by-row, by-kind, by-seq}
+use Rattle.records.proofs.Sound.{sound-reads}
 use Rattle.rast.specs.Path.{Name, Path, MSel}
 use Rattle.rast.specs.Operation.{Operation, nested, shortening}
 use Rattle.rast.specs.Mod.{nameOf}
@@ -25,7 +29,7 @@ use Rattle.factor_paths.specs.Walk.{Step, aType, anExpr, aFn, left, holds, step
 use Rattle.factor_paths.proofs.Tidy.{PathIn, Paths, PathsAll, fits-paths}
 use Rattle.factor_paths.proofs.Wraps.{paths-walked, wrap-other, expr-other}
 use Rattle.factor_paths.proofs.Modules.{ModFields, mod-fields, module-walk, extern-walk}
-use Rattle.size.proofs.Sizes.{size, sizeAll, size-six}
+use Rattle.size.proofs.Sizes.{size, sizeAll, size-six, encode-size}
 use Rattle.size.proofs.Walked.{pathed, charge, chargeAll, by-path}
 use Rattle.size.proofs.Mapped.{imports-size}
 use Rattle.points.specs.Points.{meeting}
@@ -283,7 +287,13 @@ module _ (again : Bool) where
       ((λ f. mod-few n (modules-few n) m S (mod-fields m f) at)
       ⨾ (λ f. rw (extern-walk O (suc n) S m f, unchanged at m) (omega arith))) h
 
-  -- THE LAW
-  pub card-few : (root : Path) (m : Record) → Fits m mod′ → 12 * length (placesOf 0 m (apply O root m)) ≤ size m
+  -- THE LAW, of a card's bytes that read sound, whatever the root
+  pub card-few : (root : Path) (card : Bytes) → AreBytes card → reading (O .cardDepth) (O .outermost) card ≡ Sound
+      → 12 * length (placesOf 0 (tree card) (apply O root (tree card))) ≤ length card
   unfolding apply
-  card-few root m h = let i = modules-few (deep m) m (MSel root (nameOf m)) h 0 in omega arith
+  card-few root card b e =
+      let r = sound-reads (O .cardDepth) (O .outermost) card b e in
+      let m = tree card in
+      let i = modules-few (deep m) m (MSel root (nameOf m)) (r .fits) 0 in
+      let s : length card ≡ size m = ap length (sym (r .encoded)) ∙ encode-size m in
+      omega arith

@@ -1,6 +1,6 @@
 -- The offsets of the changed points rise, and lie within the output. Assumes nothing.
 use mathlib.Core.List.{List, [], _∷_, _++_}
-use Prim.Native.Nat.{ℕ, _+_, _*_, _≤_}
+use Prim.Native.Nat.{ℕ, _+_, _≤_}
 use native.Mathlib.Omega.{arith}
 use lib.ListN.{length, length-append}
 use lib.Dec.{ltb}
@@ -69,40 +69,3 @@ rises at this that = rising at (at + length (encode that)) (placesOf at this tha
     rising : (from to : ℕ) (es : List Entry) → RisingTo from to es → Rising from es
     rising from to [] h = tt
     rising from to (e ∷ es) h = (h .0, rising (e .offset + 1) to es (h .1))
-
--- each takes at least six bytes of the output
-listed-few : (m : Meeting) (at : ℕ) (es : List Entry) (n : ℕ) → 6 ≤ n → 6 * length es ≤ n → 6 * length (listed m at es) ≤ n
-listed-few shortType at es n l h = omega (arith, l)
-listed-few shortExpr at es n l h = omega (arith, l)
-listed-few module′ at es n l h = h
-listed-few elsewhere at es n l h = h
-
-mutual
-  unfolding placesOf encode
-
-  pub places-few : (at : ℕ) (this that : Record) → 6 * length (placesOf at this that) ≤ length (encode that)
-  places-few at (leaf k b) that = omega arith
-  places-few at (node k c) (leaf j d) = omega arith
-  places-few at (node k c) (node j d) =
-      let a = record-length j (encodeAll d) in
-      let i = children-few (at + 6) c d in
-      listed-few (meeting k j) at (placesIn (at + 6) c d) (length (encode (node j d))) (omega (arith, a)) (omega (arith, a, i))
-
-  children-few : (at : ℕ) (c d : Records) → 6 * length (placesIn at c d) ≤ length (encodeAll d)
-  children-few at nil nil = omega arith
-  children-few at nil (s ▸ d) =
-      let a = length-append (encode s) (encodeAll d) in
-      let b = encode-six s in
-      let i = children-few (at + length (encode s)) nil d in
-      omega (arith, a, b, i)
-  children-few at (r ▸ c) nil = omega arith
-  children-few at (r ▸ c) (s ▸ d) =
-      let a = length-append (encode s) (encodeAll d) in
-      let b = encode-six s in
-      let next = at + length (encode s) in
-      by-test (ltb (count c) (count d))
-      (λ e. let i = children-few next (r ▸ c) d in rw e (omega (arith, a, b, i)))
-      (λ e. let i = places-few at r s in
-      let j = children-few next c d in
-      let f = length-append (placesOf at r s) (placesIn next c d) in
-      rw e (omega (arith, a, i, j, f)))

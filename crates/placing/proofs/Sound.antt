@@ -24,7 +24,6 @@ use Rattle.rast.proofs.Tests.{by-test}
 use Rattle.factor_paths.specs.Apply.{apply}
 use Rattle.factor_paths.proofs.Named.{shortening-marks}
 use Rattle.factor_paths.proofs.Shapes.{apply-canonical}
-use Rattle.size.proofs.Sizes.{size, encode-size}
 use Rattle.size.proofs.Bound.{card-most}
 use Rattle.outcome.specs.FullTable.{fullTable}
 use Rattle.outcome.specs.Outcome.{admitted}
@@ -124,10 +123,7 @@ module _ (pass : Pass) (card root : Bytes) (n : ℕ) (sound : admitted (asked pa
 
   -- how many entries there can be
   few : 12 * length Places ≤ length card
-  few =
-      let f = card-few (repeats pass) (tree root) (tree card) (reads .is-card .fits) in
-      let s : length card ≡ size (tree card) = ap length (sym (reads .is-card .encoded)) ∙ encode-size (tree card) in
-      omega (arith, f, s)
+  few = card-few (repeats pass) (tree root) card (are-bytes card bc) (admitted-sound (asked pass) card root n sound .card-sound)
 
   -- what each answer leaves
   abbrev pub Chosen : {A : Type 0} → (most : ℕ) → (out : Bytes) (list : List ℕ) → (full : ℕ → A) → (no-room few-words done : A) → A

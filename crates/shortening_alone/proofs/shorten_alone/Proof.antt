@@ -28,10 +28,9 @@ returns c =
 
 shorten-tiny-requires : tie.Need-shorten-tiny-requires
 shorten-tiny-requires c κs =
-    let admit = c .before .before .before .before .admit in
-    let enum-told = c .before .before .enum-told in
-    let if1 = c .before .if1 in
-    (sym (admit .ensures) ∙ enum-told .given .1, omega (arith, if1 .taken))
+    let test = c .before in
+    let told = test .before in
+    (sym (told .before .before .admit .ensures) ∙ told .enum-told .given .1, omega (arith, test .if1 .taken))
 
 same-length : tie.Need-same-length
 same-length c = search needs
@@ -41,10 +40,9 @@ returns-2 c = search needs
 
 shorten-small-requires : tie.Need-shorten-small-requires
 shorten-small-requires c κs =
-    let admit = c .before .before .before .before .before .admit in
-    let enum-told = c .before .before .before .enum-told in
-    let if2 = c .before .if2 in
-    (sym (admit .ensures) ∙ enum-told .given .1, omega (arith, if2 .taken))
+    let test = c .before in
+    let told = test .before .before in
+    (sym (told .before .before .admit .ensures) ∙ told .enum-told .given .1, omega (arith, test .if2 .taken))
 
 same-length-2 : tie.Need-same-length-2
 same-length-2 c = search needs
@@ -54,10 +52,9 @@ returns-3 c = search needs
 
 shorten-medium-requires : tie.Need-shorten-medium-requires
 shorten-medium-requires c κs =
-    let admit = c .before .before .before .before .before .before .admit in
-    let enum-told = c .before .before .before .before .enum-told in
-    let if3 = c .before .if3 in
-    (sym (admit .ensures) ∙ enum-told .given .1, omega (arith, if3 .taken))
+    let test = c .before in
+    let told = test .before .before .before in
+    (sym (told .before .before .admit .ensures) ∙ told .enum-told .given .1, omega (arith, test .if3 .taken))
 
 same-length-3 : tie.Need-same-length-3
 same-length-3 c = search needs
@@ -67,9 +64,8 @@ returns-4 c = search needs
 
 shorten-large-requires : tie.Need-shorten-large-requires
 shorten-large-requires c κs =
-    let admit = c .before .before .before .before .before .before .admit in
-    let enum-told = c .before .before .before .before .enum-told in
-    sym (admit .ensures) ∙ enum-told .given .1
+    let told = c .before .before .before .before in
+    sym (told .before .before .admit .ensures) ∙ told .enum-told .given .1
 
 same-length-4 : tie.Need-same-length-4
 same-length-4 c = search needs

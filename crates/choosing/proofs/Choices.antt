@@ -1,7 +1,7 @@
 -- The pair chosen for a name has the base that is chosen for it among the list of pairs. Assumes nothing.
 use mathlib.Core.Path.{_≡_, refl, sym, ap, subst, _∙_}
 use mathlib.Core.List.{List, [], _∷_}
-use mathlib.Core.Bool.{Bool, true, _&&_, cond, or-true, and-eq-true-iff, true≢false}
+use mathlib.Core.Bool.{Bool, true, _&&_, cond, or-true, or-false, and-eq-true-iff, true≢false}
 use mathlib.Core.Option.{Option, none, some}
 use Prim.Native.Nat.{ℕ, zero, suc, _-_, _<_, _≤_}
 use native.Mathlib.Omega.{arith}
@@ -11,7 +11,7 @@ use borrow.Author.Tests.{ne-eqb, eqb-true, eqb-false, lt-ltb}
 use Rattle.wire.specs.Numbers.{Bytes, sameBytes}
 use Rattle.wire.proofs.Numbers.{sameBytes-true}
 use Rattle.records.specs.Record.{encode, recordAt}
-use Rattle.rast.specs.Path.{«dafny_runtime»}
+use Rattle.rast.specs.Path.{whether, «dafny_runtime»}
 use Rattle.rast.specs.Final.{isAmong, finalPath}
 use Rattle.rast.proofs.Tests.{by-test}
 use Rattle.rast.proofs.Names.{turned}
@@ -48,6 +48,17 @@ unfolding choice finalPath
 choice-several op prefix bs h =
     rw (ne-eqb (length bs) 1 (λ e. omega arith))
     (by-test (isAmong (samePaths op) prefix bs) (λ t. rw t) (λ t. rw t (by-test (isAmong (samePaths op) Run bs) (λ u. rw u) (λ u. rw u))))
+
+-- where the prefix is among them, it is what is chosen, or what is the same
+module _ (op : Shortening) (prefix : Bytes) where
+  abbrev Brought : List Bytes → Option Bytes
+  Brought bs = whether (choice op prefix bs) none (λ b. cond (samePaths op b prefix) none (some b))
+
+  pub prefix-brings : (bs : List Bytes) → isAmong (samePaths op) prefix bs ≡ true → Brought bs ≡ none
+  unfolding isAmong
+  prefix-brings [] h = absurd (true≢false (sym h))
+  prefix-brings (b ∷ []) h = rw (choice-one op prefix b, turned (paths-of op) b prefix, sym (or-false (samePaths op prefix b)) ∙ h)
+  prefix-brings (b ∷ d ∷ ds) h = rw (choice-several op prefix (b ∷ d ∷ ds) (omega arith), h, paths-of op .reflexive prefix)
 
 -- bases that are the same are the same bytes
 paths-equal : (op : Shortening) (a b : Bytes) → samePaths op a b ≡ true → a ≡ b
@@ -139,6 +150,14 @@ module _ (s : Scope) (words : List ℕ) (n : ℕ) (r : n ≤ room words) (c : Ch
         → Test (Based 0) i ≡ true
     unfolding baseAt
     prefix-true i t p = prefix-test i ∙ rw (named-is s words name i, t, p) (paths-of (s .op) .reflexive (prefixIn s))
+
+    pub prefix-among : (i : ℕ) → i < n → operationOf (s .op) .sameName (nameAt (s .card) words i) name ≡ true → eqb (placeIn (wordAt words i)) 0 ≡ true
+        → isAmong (samePaths (s .op)) (prefixIn s) (Bases s words name n) ≡ true
+    prefix-among i l t p =
+        among-bases s words name (prefixIn s) (Test (Based 0)) n (λ k h. prefix-test k)
+        ∙ by-number (latest (Test (Based 0)) n)
+        (λ z. absurd (true≢false (sym (prefix-true i t p) ∙ latest-none (Test (Based 0)) n z i l)))
+        (λ j q. rw q (lt-ltb 0 (suc j) (omega arith)))
 
     -- where no pair of the name has the prefix, those whose place is 0 need not be looked at
     runtime-test : latest (Test (Based 0)) n ≡ 0 → (i : ℕ) → i < n → Test Runtime i ≡ (IsNamed s words name i && samePaths (s .op) Run (Base s words i))

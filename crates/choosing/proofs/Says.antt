@@ -1,7 +1,7 @@
 -- THE TABLE'S ANSWERS BY ITS CHAINS: the pair chosen for a name, and the use that a pair brings, have the base that the list of pairs says. Assumes nothing.
 use mathlib.Core.Path.{_≡_, refl, sym, ap, subst, _∙_}
 use mathlib.Core.List.{List, _∷_}
-use mathlib.Core.Bool.{false, _||_, cond}
+use mathlib.Core.Bool.{true, false, _||_, cond}
 use mathlib.Core.Option.{Option, none, some}
 use Prim.Native.Nat.{ℕ, zero, suc, _+_, _-_, _<_, _≤_}
 use native.Mathlib.Omega.{arith}
@@ -12,6 +12,7 @@ use Rattle.wire.specs.Numbers.{Bytes}
 use Rattle.rast.specs.Path.{whether}
 use Rattle.rast.proofs.Tests.{by-test}
 use Rattle.operation.specs.Operations.{samePaths}
+use Rattle.operation.proofs.Lawful.{names-of}
 use Rattle.prefix.specs.Prefix.{Scope, prefixIn}
 use Rattle.comparing.specs.Compares.{numberOf, placeIn, baseAt, sameBase}
 use Rattle.chains.specs.declared.Want.the-variants.{Named}
@@ -24,7 +25,7 @@ use Rattle.adding.proofs.Chain.{seek-after}
 use Rattle.choosing.specs.Chooses.{chosenPair, usePair}
 use Rattle.choosing.specs.Picks.{numbered, Picks, usesOf}
 use Rattle.choosing.proofs.Lists.{Base, pair-in, base-in, named-ahead}
-use Rattle.choosing.proofs.Choices.{same-prefix, pick-none, chosen-picks}
+use Rattle.choosing.proofs.Choices.{prefix-brings, same-prefix, pick-none, prefix-among, chosen-picks}
 
 module _ (s : Scope) (words : List ℕ) (n : ℕ) (r : n ≤ room words) (c : Chained s words n) where
   abbrev All : List Stored
@@ -54,7 +55,8 @@ module _ (s : Scope) (words : List ℕ) (n : ℕ) (r : n ≤ room words) (c : Ch
     abbrev Answer : ℕ → ℕ
     Answer g = cond (eqb g 0 || sameBase s (wordAt words (g - 1)) 0) 0 g
 
-    use-words : usePair s words (suc i) ≡ cond (ltb 0 Ahead) 0 (Answer (chosenPair s words Own (numberOf (s .op) Own)))
+    use-words : usePair s words (suc i)
+        ≡ cond (eqb (placeIn (wordAt words i)) 0) 0 (cond (ltb 0 Ahead) 0 (Answer (chosenPair s words Own (numberOf (s .op) Own))))
     unfolding usePair
     use-words =
         let k : suc i - 1 ≡ i = omega arith in
@@ -79,12 +81,21 @@ module _ (s : Scope) (words : List ℕ) (n : ℕ) (r : n ≤ room words) (c : Ch
         (λ u. rw u (pick-none (e ∙ rw u)))
         (λ u. rw u (record { inside = p .inside; picked = e ∙ rw u (sym (base-in s words n j m)); named = p .named })))
 
+    -- where the pair has the prefix
+    use-own : eqb (placeIn (wordAt words i)) 0 ≡ true → Use ≡ none
+    use-own p =
+        let b = prefix-brings (s .op) (prefixIn s) (basesNamed (s .op) All Own)
+        (prefix-among s words n r c Own i l (names-of (s .op) .reflexive Own) p) in
+        use-list ∙ rw b (by-test (ltb 0 Ahead) (λ t. rw t) (λ t. rw t))
+
     use-picks : Pick Own Use (usePair s words (suc i))
     use-picks =
         rw use-words
-        (by-test (ltb 0 Ahead)
+        (by-test (eqb (placeIn (wordAt words i)) 0)
+        (λ p. rw p (pick-none (use-own p)))
+        (λ p. rw p (by-test (ltb 0 Ahead)
         (λ t. rw t (pick-none (use-list ∙ rw t)))
-        (λ t. rw t (use-chosen (chosenPair s words Own (numberOf (s .op) Own)) (chosen-picks s words n r c Own) t)))
+        (λ t. rw t (use-chosen (chosenPair s words Own (numberOf (s .op) Own)) (chosen-picks s words n r c Own) t)))))
 
     one-use : (others : List Stored) (g : ℕ) → Pick Own Use g → cond (eqb g 0) others (stored Own (Base s words (g - 1)) ∷ others)
         ≡ whether (pairOf All i) others (λ p. whether Use others (λ b. stored (p .name) b ∷ others))

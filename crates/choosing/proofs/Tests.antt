@@ -9,12 +9,13 @@ use lib.Dec.{eqb, ltb}
 use borrow.Author.Tests.{eq-eqb, ne-eqb, lt-ltb, le-ltb, eqb-false, ltb-false}
 use Rattle.wire.specs.Numbers.{Bytes}
 use Rattle.rast.proofs.Tests.{by-test}
+use Rattle.operation.proofs.Lawful.{names-of}
 use Rattle.prefix.specs.Prefix.{Scope}
 use Rattle.comparing.specs.Compares.{sameBase}
 use Rattle.chains.specs.declared.Want.the-variants.{Named, Based, Runtime}
-use Rattle.chains.specs.Chains.{room, nameAt, numberAt, wordAt, bucketOf, headOf, nextOf, isWanted, seekFrom, seek}
+use Rattle.chains.specs.Chains.{room, nameAt, numberAt, wordAt, bucketOf, headOf, nextOf, hasWanted, hasNamed, isWanted, seekFrom, seek}
 use Rattle.chains.proofs.Tests.{next-less}
-use Rattle.choosing.specs.Chooses.{chosenOfSeveral, chosenPair, usePair}
+use Rattle.choosing.specs.Chooses.{chosenOfSeveral, chosenPair, usePair, Oldest}
 
 -- what is found is a pair that there is room for
 module _ (f : ℕ → Bool) (words : List ℕ) where
@@ -79,9 +80,21 @@ module _ (s : Scope) (words : List ℕ) (name : Bytes) (number : ℕ) where
       unfolding chosenPair
       chosen-several y r q = q ∙ rw (head-is, ← e, ne-eqb one 0 z, two-is, ne-eqb two 0 y)
 
-    -- the newest of a name after which there is none is the only one
-    pub chosen-newest : (g : ℕ) → 0 < g → seek (isWanted s words name number Named) words (nextOf words g) ≡ 0 → one ≡ g → g ≡ chosenPair s words name number
-    chosen-newest g o k q = sym q ∙ chosen-only (λ z. omega arith) (nextOf words one) 0 refl (rw q (sym k)) refl
+    -- the newest of a name, where it is the oldest too, is the only one
+    pub chosen-newest : (g : ℕ) → Oldest s words name number g → one ≡ g → g ≡ chosenPair s words name number
+    chosen-newest g o q =
+        let f = o .first in
+        sym q ∙ chosen-only (λ z. omega arith) (nextOf words one) 0 refl (rw q (sym (o .alone))) refl
+
+  -- and so it is where it is the newest of its bucket
+  head-found : (g : ℕ) → Oldest s words name number g → g ≡ seek (isWanted s words name number Named) words g
+  unfolding seek seekFrom
+  head-found zero o = absurd (let f = o .first in omega arith)
+  head-found (suc j) o = rw (le-ltb (room words) (suc j) (o .inside), ne-eqb (suc j) 0 (λ z. omega arith), o .named)
+
+  pub chosen-head : (b first : ℕ) → b ≡ bucketOf words number → first ≡ headOf words b → (g : ℕ) → Oldest s words name number g → first ≡ g
+      → g ≡ chosenPair s words name number
+  chosen-head b first f e g o q = chosen-newest b first g f e (rw q (head-found g o)) g o refl
 
 module _ (s : Scope) (words : List ℕ) (g : ℕ) where
   pub use-zero : g ≡ 0 → 0 ≡ usePair s words g
@@ -93,42 +106,54 @@ module _ (s : Scope) (words : List ℕ) (g : ℕ) where
     unfolding usePair
     use-past l = rw (ne-eqb g 0 z, lt-ltb (room words) g (omega arith))
 
-    module _ (i : g ≤ n) (at len : ℕ) (name : Bytes) (a : at ≡ getD words (4 * (g - 1)) 0) (l : len ≡ getD words (4 * (g - 1) + 1) 0)
-        (p : name ≡ take len (drop (at % 65536) (s .card))) (m ahead : ℕ) (h : m ≡ nextOf words g)
-        (k : ahead ≡ seek (isWanted s words name (at / 65536) Named) words m) where
-      name-is : nameAt (s .card) words (g - 1) ≡ name
-      name-is = sym (p ∙ rw (a, l))
-
-      number-is : numberAt words (g - 1) ≡ at / 65536
-      number-is = sym (ap (λ (x : ℕ). x / 65536) a)
-
-      of-name : usePair s words g
-          ≡ cond (ltb 0 ahead) 0 (let c : ℕ = chosenPair s words name (at / 65536) in cond (eqb c 0 || sameBase s (wordAt words (c - 1)) 0) 0 c)
+    module _ (i : g ≤ n) (own : ℕ) (b : own ≡ wordAt words (g - 1)) where
+      -- a pair that has the prefix brings none
+      pub use-own : own % 65536 ≡ 0 → 0 ≡ usePair s words g
       unfolding usePair
-      of-name =
-          let q : seek (isWanted s words name (at / 65536) Named) words (nextOf words g) ≡ ahead = sym (k ∙ rw h) in
-          rw (ne-eqb g 0 z, le-ltb (room words) g (omega arith), name-is, number-is, q)
+      use-own y = rw (ne-eqb g 0 z, le-ltb (room words) g (omega arith), ← b, eq-eqb (own % 65536) 0 y)
 
-      -- none after pair g
-      pub none-after : ahead ≤ 0 → (0 < g) × (seek (isWanted s words name (at / 65536) Named) words (nextOf words g) ≡ 0)
-      none-after o = (omega (arith, z), rw (← h) (sym k ∙ (let y : ahead ≡ 0 = omega arith in y)))
+      module _ (x : own % 65536 ≡ 0 → ⊥) (at len : ℕ) (name : Bytes) (a : at ≡ getD words (4 * (g - 1)) 0) (l : len ≡ getD words (4 * (g - 1) + 1) 0)
+          (p : name ≡ take len (drop (at % 65536) (s .card))) (m ahead : ℕ) (h : m ≡ nextOf words g)
+          (k : ahead ≡ seek (isWanted s words name (at / 65536) Named) words m) where
+        name-is : nameAt (s .card) words (g - 1) ≡ name
+        name-is = sym (p ∙ rw (a, l))
 
-      pub use-later : 0 < ahead → 0 ≡ usePair s words g
-      use-later o = sym (of-name ∙ rw (lt-ltb 0 ahead o))
+        number-is : numberAt words (g - 1) ≡ at / 65536
+        number-is = sym (ap (λ (x : ℕ). x / 65536) a)
 
-      module _ (o : ahead ≤ 0) (c : ℕ) (f : c ≡ chosenPair s words name (at / 65536)) where
-        of-chosen : usePair s words g ≡ cond (eqb c 0 || sameBase s (wordAt words (c - 1)) 0) 0 c
-        of-chosen = of-name ∙ rw (le-ltb 0 ahead o, ← f)
+        of-name : usePair s words g
+            ≡ cond (ltb 0 ahead) 0 (let c : ℕ = chosenPair s words name (at / 65536) in cond (eqb c 0 || sameBase s (wordAt words (c - 1)) 0) 0 c)
+        unfolding usePair
+        of-name =
+            let q : seek (isWanted s words name (at / 65536) Named) words (nextOf words g) ≡ ahead = sym (k ∙ rw h) in
+            rw (ne-eqb g 0 z, le-ltb (room words) g (omega arith), ← b, ne-eqb (own % 65536) 0 x, name-is, number-is, q)
 
-        pub use-none : c ≡ 0 → 0 ≡ usePair s words g
-        use-none y = sym (of-chosen ∙ rw (eq-eqb c 0 y))
+        -- where none is after pair g
+        pub is-oldest : ahead ≤ 0 → Oldest s words name (at / 65536) g
+        unfolding isWanted hasNamed hasWanted
+        is-oldest o = record {
+          first = omega (arith, z);
+          inside = omega arith;
+          named = rw (name-is, number-is, eq-eqb (at / 65536) (at / 65536) refl, names-of (s .op) .reflexive name);
+          alone = rw (← h) (sym k ∙ (let y : ahead ≡ 0 = omega arith in y));
+        }
 
-        module _ (y : c ≡ 0 → ⊥) (w : ℕ) (t : Bool) (q : w ≡ getD words (4 * (c - 1) + 2) 0) (u : t ≡ sameBase s w 0) where
-          of-word : usePair s words g ≡ cond t 0 c
-          of-word = of-chosen ∙ rw (ne-eqb c 0 y, ← q, ← u)
+        pub use-later : 0 < ahead → 0 ≡ usePair s words g
+        use-later o = sym (of-name ∙ rw (lt-ltb 0 ahead o))
 
-          pub use-prefix : t ≡ true → 0 ≡ usePair s words g
-          use-prefix v = sym (of-word ∙ rw v)
+        module _ (o : ahead ≤ 0) (c : ℕ) (f : c ≡ chosenPair s words name (at / 65536)) where
+          of-chosen : usePair s words g ≡ cond (eqb c 0 || sameBase s (wordAt words (c - 1)) 0) 0 c
+          of-chosen = of-name ∙ rw (le-ltb 0 ahead o, ← f)
 
-          pub use-is : t ≡ false → c ≡ usePair s words g
-          use-is v = sym (of-word ∙ rw v)
+          pub use-none : c ≡ 0 → 0 ≡ usePair s words g
+          use-none y = sym (of-chosen ∙ rw (eq-eqb c 0 y))
+
+          module _ (y : c ≡ 0 → ⊥) (w : ℕ) (t : Bool) (q : w ≡ getD words (4 * (c - 1) + 2) 0) (u : t ≡ sameBase s w 0) where
+            of-word : usePair s words g ≡ cond t 0 c
+            of-word = of-chosen ∙ rw (ne-eqb c 0 y, ← q, ← u)
+
+            pub use-prefix : t ≡ true → 0 ≡ usePair s words g
+            use-prefix v = sym (of-word ∙ rw v)
+
+            pub use-is : t ≡ false → c ≡ usePair s words g
+            use-is v = sym (of-word ∙ rw v)

@@ -2,11 +2,8 @@
 use chains::Want;
 use operation::Shortening;
 ghost use mathlib.Core.Path.{_≡_};
-ghost use Prim.Native.Nat.{_<_};
 ghost use Rattle.prefix.specs.Prefix.{scope};
-ghost use Rattle.chains.specs.declared.Want.the-variants.{Named};
-ghost use Rattle.chains.specs.Chains.{nextOf, isWanted, seek};
-ghost use Rattle.choosing.specs.Chooses.{chosenOfSeveral, chosenPair, usePair};
+ghost use Rattle.choosing.specs.Chooses.{chosenOfSeveral, chosenPair, usePair, Oldest};
 
 // Among several pairs of a name: the one that has the prefix, else the one that has ::dafny_runtime.
 fn chosen_of_several(
@@ -67,7 +64,7 @@ pub fn chosen(
     chosen_of_several(op, card, root, chain, work, first, name, number)
 }
 
-// The same where no pair of the name comes after pair g: if pair g is the newest of the name it is the only one.
+// The same for a name whose oldest pair is pair g: if it is also the newest it is the only one. Most are the newest of their bucket: no name is looked at.
 fn chosen_after(
     op: Shortening,
     card: &[u8],
@@ -78,20 +75,23 @@ fn chosen_after(
     number: usize,
     g: usize,
 ) -> usize
-    requires { ⌜ (0 < g)
-        × (seek (isWanted (scope op (now card) (now root) (now chain)) (now work) (now name) number Named) (now work) (nextOf (now work) g) ≡ 0) ⌝ }
+    requires { ⌜ Oldest (scope op (now card) (now root) (now chain)) (now work) (now name) number g ⌝ }
     ensures { λ r. ⌜ r ≡ chosenPair (scope op (now (card .entry)) (now (root .entry)) (now (chain .entry)))
         (now (work .entry)) (now (name .entry)) number ⌝ }
 {
-    let want = Want::Named;
     let first = chains::head(work, chains::bucket(work, number));
+    if first == g {
+        return g;
+    }
+    let want = Want::Named;
     if seeking::seek(op, card, root, chain, work, first, name, number, want) == g {
         return g;
     }
     chosen(op, card, root, chain, work, name, number)
 }
 
-// The pair that has the base of the use that pair g brings: the one chosen for its name, unless a pair ahead has the name, or the base is the prefix.
+// The pair that has the base of the use that pair g brings: the one chosen for its name, unless a pair ahead has the name, or the base is the prefix. Where pair g
+// itself has the prefix nothing is sought.
 pub fn use_of(
     op: Shortening,
     card: &[u8],
@@ -109,6 +109,9 @@ pub fn use_of(
         return 0;
     }
     let k = 4 * (g - 1);
+    if wire::word(work[k + 2]) % 65536 == 0 {
+        return 0;
+    }
     let at = wire::word(work[k]);
     let name = wire::part(card, at % 65536, wire::word(work[k + 1]));
     let number = at / 65536;

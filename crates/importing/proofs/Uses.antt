@@ -58,15 +58,16 @@ module _ (s : Scope) (words : List ℕ) where
   brings-of g z =
       by-test (eqb g 0) (λ t. absurd (z (rw t)))
       (λ t. by-test (ltb (room words) g) (λ u. absurd (z (rw (t, u))))
-      (λ u. by-test (ltb 0 (Ahead g)) (λ v. absurd (z (rw (t, u, v))))
-      (λ v. by-test (eqb (Chosen g) 0) (λ w. absurd (z (rw (t, u, v, w))))
-      (λ w. by-test (sameBase s (wordAt words (Chosen g - 1)) 0) (λ x. absurd (z (rw (t, u, v, w, x))))
-      (λ x. rw (t, u, v, w, x) record {
+      (λ u. by-test (eqb (placeIn (wordAt words (g - 1))) 0) (λ p. absurd (z (rw (t, u, p))))
+      (λ p. by-test (ltb 0 (Ahead g)) (λ v. absurd (z (rw (t, u, p, v))))
+      (λ v. by-test (eqb (Chosen g) 0) (λ w. absurd (z (rw (t, u, p, v, w))))
+      (λ w. by-test (sameBase s (wordAt words (Chosen g - 1)) 0) (λ x. absurd (z (rw (t, u, p, v, w, x))))
+      (λ x. rw (t, u, p, v, w, x) record {
         first = let d = eqb-false g 0 t in omega (arith, d);
         inside = ltb-false (room words) g u;
         chosen = chosen-room s words (nameAt (s .card) words (g - 1)) (numberAt words (g - 1)) (Chosen g) refl;
         other = x;
-      })))))
+      }))))))
 
   pub brings : (g c : ℕ) → c ≡ usePair s words g → (c ≡ 0 → ⊥) → Brings s words g c
   brings g c e z = rw e (brings-of g (λ y. z (e ∙ y)))

@@ -76,10 +76,11 @@ module _ (s : Scope) (words : List ℕ) where
       let number = numberAt words (g - 1) in
       let chosen = chosenPair s words name number in
       one-of Brought (eqb g 0 || ltb (room words) g) none-brought
+      (one-of Brought (eqb (placeIn (wordAt words (g - 1))) 0) none-brought
       (one-of Brought (ltb 0 (seek (isWanted s words name number Named) words (nextOf words g))) none-brought
       (by-test (eqb chosen 0 || sameBase s (wordAt words (chosen - 1)) 0)
       (λ t. rw t none-brought)
-      (λ t. rw t (λ h. base-fits s (wordAt words (chosen - 1)) (either-false (eqb chosen 0) (sameBase s (wordAt words (chosen - 1)) 0) t)))))
+      (λ t. rw t (λ h. base-fits s (wordAt words (chosen - 1)) (either-false (eqb chosen 0) (sameBase s (wordAt words (chosen - 1)) 0) t))))))
 
 use-length : (u : Stored) → length (useBytes u) ≡ 31 + length (u .base) + length (u .name)
 use-length u =

@@ -2,4 +2,3 @@ pub mod Passed
 pub mod Uses
 pub mod Beside
 pub mod Ring
-pub mod Sound

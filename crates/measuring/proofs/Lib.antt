@@ -1,4 +1,1 @@
 pub mod Tests
-pub mod Uses
-pub mod Roomy
-pub mod Sound

@@ -32,7 +32,7 @@ use Rattle.work.proofs.Lent.{most, words-all}
 use Rattle.measuring.specs.declared.Written.{Written}
 use Rattle.measuring.specs.declared.Written.the-variants.{Full, Length}
 use Rattle.measuring.specs.Measured.{output, wholeOutput}
-use Rattle.measuring.proofs.Sound.{FullAt, Bytes′, Result, whole-sound}
+use Rattle.measured.proofs.Sound.{FullAt, Bytes′, Result, whole-sound}
 use Rattle.shortening.specs.Shortened.{answerOf, outcome, Promise, Answered}
 
 -- an outcome that is the definition's keeps the promise

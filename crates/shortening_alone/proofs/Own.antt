@@ -19,7 +19,7 @@ use Rattle.operation.proofs.Weights.{plain-weight}
 use Rattle.chains.specs.Chains.{room}
 use Rattle.measuring.specs.declared.Written.{Written}
 use Rattle.measuring.specs.Measured.{output, wholeOutput}
-use Rattle.measuring.proofs.Sound.{FullAt, few-full}
+use Rattle.measured.proofs.Sound.{FullAt, few-full}
 use Rattle.shortening.specs.Shortened.{answerOf, Alone, Admitted}
 use Rattle.shortening.proofs.Kept.{promised, made, refused, answered}
 use Rattle.shortening_alone.proofs.Enough.{enough}

@@ -25,7 +25,7 @@ use Rattle.work.proofs.Lent.{most, words-all}
 use Rattle.chains.specs.Chains.{room}
 use Rattle.placing.specs.declared.Listed.{Listed}
 use Rattle.placing.specs.Placing.{placing, placed}
-use Rattle.placing.proofs.Sound.{Whole, Places, FullAt, Result, placed-sound}
+use Rattle.placed.proofs.Sound.{Whole, Places, FullAt, Result, placed-sound}
 use Rattle.shortening_places.specs.Placed.{Promise, Answered}
 
 -- what is answered is the definition's, so it keeps the promise

@@ -15,7 +15,7 @@ use Rattle.operation.specs.Passes.{repeats, asked}
 use Rattle.chains.specs.Chains.{room}
 use Rattle.placing.specs.declared.Listed.{Listed}
 use Rattle.placing.specs.Placing.{placing, placed}
-use Rattle.placing.proofs.Sound.{FullAt, few-full}
+use Rattle.placed.proofs.Sound.{FullAt, few-full}
 use Rattle.shortening.specs.Shortened.{Admitted}
 use Rattle.shortening_places.specs.Placed.{Alone}
 use Rattle.shortening_places.proofs.Kept.{promised, made, refused, answered}

@@ -36,8 +36,8 @@ use Rattle.fitting.specs.Fitting.{areFew, nestedFew, usesMost, isRoomy}
 use Rattle.rewriting.proofs.Walks.{alone-kind, alone-content}
 use Rattle.modules.proofs.Contents.{mod-content, body-is}
 use Rattle.modules.proofs.Outermost.{Prefix, Own, Reads, admitted-reads}
 use Rattle.measuring.specs.Measured.{outermost}
-use Rattle.measuring.proofs.Uses.{uses-fit}
+use Rattle.measured.proofs.Uses.{uses-fit}
 
 -- a declaration that is not too large
 few-first : (most : ℕ) (d : Record) (c : Records) → Canonical d → areFew most (encodeEach (d ▸ c)) ≡ true

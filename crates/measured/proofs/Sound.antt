@@ -35,10 +35,10 @@ use Rattle.laying.proofs.Laws.{lay-whole}
 use Rattle.modules.specs.Modules.{moduleMade, cardMade}
 use Rattle.modules.proofs.Keeps.{table-length}
 use Rattle.modules.proofs.Outermost.{Outermost, Own, admitted-reads, outermost-is, outermost-again, collected-own}
 use Rattle.measuring.specs.declared.Written.the-variants.{Full, Length}
 use Rattle.fitting.specs.Fitting.{surelyFits, isRoomy}
 use Rattle.measuring.specs.Measured.{Output, output, firstMade, written, direct, inTwo, outermost, collected, wholeOutput}
-use Rattle.measuring.proofs.Roomy.{roomy-none, roomy-fits}
+use Rattle.measured.proofs.Roomy.{roomy-none, roomy-fits}
 
 module _ (op : Shortening) (card root : Bytes) (n : ℕ) (sound : admitted (operationOf op) card root n ≡ Sound)
     (bc : (i : ℕ) → getD card i 0 < 256) (br : (i : ℕ) → getD root i 0 < 256) where

@@ -45,14 +45,14 @@ use Rattle.gathering.specs.Gathers.{span}
 use Rattle.laying.specs.Lays.{lay}
 use Rattle.laying.proofs.Laws.{lay-whole}
 use Rattle.listing.specs.Lists.{cardPlaces}
-use Rattle.listing.proofs.Sound.{listing-card}
+use Rattle.placed.proofs.Listing.{listing-card}
 use Rattle.measuring.specs.declared.Written.the-variants.{Full, Length}
 use Rattle.measuring.specs.Measured.{wholeOutput}
-use Rattle.measuring.proofs.Sound.{Result as Unweighed, few-full as unweighed-few, whole-sound}
+use Rattle.measured.proofs.Sound.{Result as Unweighed, few-full as unweighed-few, whole-sound}
 use Rattle.modules.specs.Modules.{moduleMade, cardMade}
 use Rattle.modules.proofs.States.{found}
 use Rattle.modules.proofs.Outermost.{Outermost, Reads, admitted-reads, outermost-is}
 use Rattle.placing.specs.Placing.{listed, Placing, weighedMade, plainMade, countedFirst, writtenFirst, placed}
 
 -- a weighed length taken apart
 apart-length : (l e : ℕ) → l < 2 ^ 24 → (l + 2 ^ 24 * e) % 2 ^ 24 ≡ l

@@ -1,0 +1,3 @@
+pub mod Uses
+pub mod Roomy
+pub mod Sound

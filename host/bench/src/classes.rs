@@ -133,9 +133,10 @@ pub fn colliding(count: usize) -> Vec<u8> {
     module("m", &body.collect::<Vec<_>>())
 }
 
-/// So many names of six letters that were searched for until the console's table takes them for one: each has
-/// the number of a name that `crates/comparing` defines, and so one chain has them all. Path types under Global.
-pub fn searched(count: usize) -> Vec<u8> {
+/// So many names of six letters that were searched for until their numbers, which `crates/comparing` defines, have so
+/// many upper bits in common. With all 16 the console's table takes them for one; with 9 they stand in one of its 512
+/// buckets. Either way one chain has them all. Path types under Global.
+pub fn searched(count: usize, bits: u32) -> Vec<u8> {
     let four = |name: &[u8]| u32::from_le_bytes([name[0], name[1], name[2], name[3]]);
     let number = |name: &[u8]| {
         let sum = four(&name[..4]).wrapping_mul(1540483477).wrapping_add(four(&name[2..]));
@@ -148,7 +149,7 @@ pub fn searched(count: usize) -> Vec<u8> {
             letter
         })
     };
-    let names = (0..26u32.pow(6)).map(letters).filter(|name| number(name) == 0x1234);
+    let names = (0..26u32.pow(6)).map(letters).filter(|name| (number(name) ^ 0x1234) >> (16 - bits) == 0);
     let names: Vec<String> = names.take(count).map(|name| name.map(char::from).iter().collect()).collect();
     module("m", &[global_types(&names)])
 }

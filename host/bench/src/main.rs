@@ -72,7 +72,8 @@ fn of_classes() -> Vec<Class> {
     list.push(one("crowded", classes::crowded()));
     list.push(one("evicting", classes::evicting(490, 17)));
     list.push(one("colliding", classes::colliding(480)));
-    list.push(one("searched", classes::searched(512)));
+    list.push(one("one bucket", classes::searched(512, 9)));
+    list.push(one("searched", classes::searched(512, 16)));
     list.push(one("deep types", classes::deep_types(50)));
     list
 }

@@ -94,7 +94,8 @@ fn measured_cards() {
         nested_modules(200),
         crowded(),
         evicting(490, 17),
-        searched(512),
+        searched(512, 9),
+        searched(512, 16),
         deep_types(50),
     ];
     let sized = [1, 4, 16, 32].map(|k| typical(k << 10));
@@ -110,7 +111,7 @@ fn measured_cards() {
     assert_eq!([8, 32, 128, 512].map(|n| count(&pairs(n))), [8, 32, 128, 512].map(Ok));
     assert_eq!(count(&one_name(512)), Ok(512));
     assert_eq!(count(&crowded()), Ok(511));
-    assert_eq!(count(&searched(512)), Ok(512));
+    assert_eq!([9, 16].map(|bits| count(&searched(512, bits))), [512, 512].map(Ok));
     assert_eq!([(490, 17), (990, 8)].map(|(own, inner)| count(&evicting(own, inner))), [507, 998].map(Ok));
     assert_eq!(count(&close_bases(800)), Ok(800));
     assert_eq!([128, 512, 700, 1024].map(|n| count(&paths(n))), [128, 512, 700, 1024].map(Ok));

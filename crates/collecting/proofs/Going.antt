@@ -95,6 +95,13 @@ module _ (s : Scope) (t : Table) (from to k left : ℕ) where
     pub expr-path : k ≡ 0x5C → u ≡ visitPath (added s) (s .card) true t from to → u ≡ Whole
     expr-path g y = shut anExpr 0x5C refl (λ i. refl) g (rw (eq-eqb k 0x5C g) (sym y))
 
+    -- the name of a use or a nested module, of which no field is entered either
+    pub use-name : k ≡ 0x6A → u ≡ visitName (added s) (s .card) k t from to → u ≡ Whole
+    use-name g y = shut aDecl 0x6A refl (λ i. refl) g (sym y)
+
+    pub mod-name : k ≡ 0x62 → u ≡ visitName (added s) (s .card) k t from to → u ≡ Whole
+    mod-name g y = shut aDecl 0x62 refl (λ i. refl) g (sym y)
+
     pub decl-both : visitedAs k ≡ aDecl → (m : Table) → m ≡ visitName (added s) (s .card) k t from to → u ≡ partsAdded s left k m from to → u ≡ Whole
     decl-both e m x y = y ∙ rw x (sym (whole-as aDecl e))
 

@@ -25,7 +25,6 @@ use Rattle.gathering.proofs.Spans.{kind-front}
 use Rattle.rewriting.specs.Rewrites.{partsOf}
 use Rattle.tables.proofs.Beside.{own-taken}
 use Rattle.rewriting.proofs.Parts.{parts-none, parts-step}
-use Rattle.growth.specs.Grows.{cardGrowth}
 use Rattle.fitting.specs.Fitting.{surelyFits, areFew, nestedFew, useMost, usesMost, isRoomy}
 
 -- dividing the one number and multiplying the other
@@ -156,15 +155,15 @@ unfolding usesMost
 uses-next card words i e f = rw (add-one i, ← e, ← f)
 
 -- by the outermost module's table
-module _ (s : Scope) (lent pairs : ℕ) (words : List ℕ) where
+module _ (s : Scope) (lent grown pairs : ℕ) (words : List ℕ) where
   abbrev Roomy : Bool
-  Roomy = isRoomy s lent (table pairs words)
+  Roomy = isRoomy s lent grown (table pairs words)
 
   abbrev Uses : ℕ
   Uses = usesMost (s .card) (ownWords (table pairs words)) pairs
 
   abbrev Bound : ℕ
-  Bound = length (s .card) + cardGrowth (s .op) (s .card) + Uses
+  Bound = length (s .card) + grown + Uses
 
   pub roomy-full : (most : ℕ) → most ≡ room words → most < pairs → false ≡ Roomy
   unfolding isRoomy
@@ -181,7 +180,7 @@ module _ (s : Scope) (lent pairs : ℕ) (words : List ℕ) where
     pub roomy-card : lent < length (s .card) → false ≡ Roomy
     roomy-card l = over (omega arith)
 
-    module _ (i : length (s .card) ≤ lent) {grown : ℕ} (g : grown ≡ cardGrowth (s .op) (s .card)) where
+    module _ (i : length (s .card) ≤ lent) where
       pub roomy-grown : lent - length (s .card) < grown → false ≡ Roomy
       roomy-grown l = over (omega arith)
 

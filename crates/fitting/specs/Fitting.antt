@@ -15,7 +15,6 @@ use Rattle.chains.specs.Chains.{room, wordAt}
 use Rattle.adding.specs.Adds.{Table}
 use Rattle.adding.specs.Settles.{ownWords}
 use Rattle.rewriting.specs.Rewrites.{partsOf, bodyOf}
-use Rattle.growth.specs.Grows.{cardGrowth}
 
 -- by the card's length alone: how many times as long an output can be, and a pair takes 18 bytes of a card
 unfoldable pub surelyFits : Shortening → (card out : Bytes) → List ℕ → Bool
@@ -42,8 +41,8 @@ usesMost card words zero = 0
 usesMost card words (suc n) = usesMost card words n + useMost card words n
 
 -- by the outermost module's table, where so many bytes are lent: how long its uses can be, and what else can grow
-unfoldable pub isRoomy : Scope → ℕ → Table → Bool
-isRoomy s lent mine =
+unfoldable pub isRoomy : Scope → (lent grown : ℕ) → Table → Bool
+isRoomy s lent grown mine =
     leb (mine .count) (room (mine .words))
-    && (leb (length (s .card) + cardGrowth (s .op) (s .card) + usesMost (s .card) (ownWords mine) (mine .count)) lent
+    && (leb (length (s .card) + grown + usesMost (s .card) (ownWords mine) (mine .count)) lent
     && nestedFew (s .card) (room (mine .words)))

@@ -91,7 +91,7 @@ fn uses_most(card: &[u8], work: &[u32], n: usize) -> usize
     sum
 }
 
-// By the outermost module's table, which has so many pairs, where so many bytes are lent.
+// By the outermost module's table, which has so many pairs, where so many bytes are lent and what else can grow grows by so many.
 pub fn is_roomy(
     op: Shortening,
     card: &[u8],
@@ -100,8 +100,9 @@ pub fn is_roomy(
     lent: usize,
     work: &[u32],
     pairs: usize,
+    grown: usize,
 ) -> bool
-    ensures { λ r. ⌜ r ≡ isRoomy (scope op (now (card .entry)) (now (root .entry)) (now (chain .entry))) lent (table pairs (now (work .entry))) ⌝ }
+    ensures { λ r. ⌜ r ≡ isRoomy (scope op (now (card .entry)) (now (root .entry)) (now (chain .entry))) lent grown (table pairs (now (work .entry))) ⌝ }
 {
     let most = chains::room(work);
     if most < pairs {
@@ -111,7 +112,6 @@ pub fn is_roomy(
         return false;
     }
     let over = lent - card.len();
-    let grown = growth::growth(op, card);
     if over < grown {
         return false;
     }

@@ -5,10 +5,10 @@ use mathlib.Core.List.{[], _∷_, append-nil}
 use Prim.Native.Nat.{ℕ, zero, suc, _+_, _≤_}
 use native.Mathlib.Omega.{arith}
 use lib.ListN.{length}
-use borrow.Author.Tests.{le-ltb}
 use Rattle.answers.specs.declared.Verdict.the-variants.{Sound}
-use Rattle.wire.specs.Numbers.{Bytes, AreBytes}
-use Rattle.records.specs.Record.{Record, Records, node, nil, _▸_, children, deep, deepAll, setNth, mapAll, encode, encodeAll, tree, is}
+use Rattle.wire.specs.Numbers.{Bytes, AreBytes, between}
+use Rattle.wire.proofs.Slices.{tail-is}
+use Rattle.records.specs.Record.{Record, Records, node, nil, _▸_, children, deep, deepAll, setNth, mapAll, encode, encodeAll, tree, is, lengthOf}
 use Rattle.records.specs.Kinds.{kinds, mod′, these, any, rowOf, contentAt}
 use Rattle.records.specs.Reading.{reading}
 use Rattle.records.specs.Canonical.{Canonical, CanonicalAll}
@@ -16,6 +16,7 @@ use Rattle.records.proofs.Fits.{Fits, FitsAll}
 use Rattle.records.proofs.Run.{_⨾_}
 use Rattle.records.proofs.Leaves.{node-at, these-no-bytes}
 use Rattle.records.proofs.ByRow.{by-row, by-kind, by-seq}
+use Rattle.records.proofs.Front.{encode-length}
 use Rattle.records.proofs.Sound.{sound-reads}
 use Rattle.rast.specs.Path.{Path, MSel}
 use Rattle.rast.specs.Operation.{Operation, nested}
@@ -35,6 +36,7 @@ use Rattle.operation.specs.Operations.{passOf, operationOf}
 use Rattle.rewriting.specs.Rewrites.{partsOf}
 use Rattle.rewriting.proofs.Parts.{encodeEach, parts-all}
 use Rattle.growth.specs.Grows.{sum, growth, growthAll, cardGrowth}
+use Rattle.growth.proofs.Turns.{part-is}
 use Rattle.growth.proofs.Walked.{due, due-none, due-sum, held-growth, walk-grows}
 
 module _ (op : Shortening) where
@@ -142,8 +144,12 @@ module _ (op : Shortening) where
       let r = sound-reads (O .cardDepth) (O .outermost) card h e in
       let m = tree card in
       let S = MSel root (nameOf m) in
-      let g : growthAll op 48 false false 1 card ≡ grown 48 false m =
-      ap (growthAll op 48 false false 1) (sym (r .encoded)) ∙ one-part m (r .canonical) in
+      let n : 4 + lengthOf card ≡ length card =
+      ap (λ (c : Bytes). 4 + lengthOf c) (sym (r .encoded) ∙ sym (append-nil (encode m))) ∙ encode-length m [] (r .canonical) ∙ ap length (r .encoded) in
+      let g : cardGrowth op card ≡ grown 48 false m =
+      sym (part-is op card 0 (4 + lengthOf card) false false 1 48 (omega arith) (omega arith) l (omega arith))
+      ∙ ap (λ (k : ℕ). growthAll op 48 false false 1 (between card 0 k)) n ∙ ap (growthAll op 48 false false 1) (tail-is card 0)
+      ∙ ap (growthAll op 48 false false 1) (sym (r .encoded)) ∙ one-part m (r .canonical) in
       let s : length card ≡ size m = ap length (sym (r .encoded)) ∙ encode-size m in
       let i = outermost-grows (deep m) 48 m S (r .fits) (r .canonical) (r .shallow) in
-      rw (encode-size (applyPrefix O (deep m) m S), encodeAll-size (imports O m S), le-ltb 65536 (length card) l, g) (omega arith)
+      rw (encode-size (applyPrefix O (deep m) m S), encodeAll-size (imports O m S), g) (omega arith)

@@ -1,12 +1,12 @@
 -- The tests of a record's kind, as the code makes them. Assumes nothing.
 use mathlib.Core.Path.{_≡_, refl}
 use mathlib.Core.Bool.{Bool, true, false, _||_, cond}
-use Prim.Native.Nat.{ℕ, _+_}
+use Prim.Native.Nat.{ℕ, _+_, _<_, _≤_}
 use native.Mathlib.Numerals.{add-one}
 use lib.Dec.{eqb}
-use borrow.Author.Tests.{eq-eqb, ne-eqb}
+use borrow.Author.Tests.{eq-eqb, ne-eqb, lt-ltb, le-ltb}
 use Rattle.records.specs.Kinds.{stands, path, type, expr}
-use Rattle.growth.specs.Grows.{isFixed, wrapsIn, useOf}
+use Rattle.growth.specs.Grows.{isFixed, wrapsIn, wrapsAt, useOf}
 
 -- whether a kind is fixed
 module _ (k : ℕ) where
@@ -52,3 +52,10 @@ module _ (again : Bool) (w k : ℕ) where
 
   pub wraps-none : stands type k ≡ false → stands expr k ≡ false → w ≡ wrapsIn again w k
   wraps-none t x = rw (t, x)
+
+  -- and for any count
+  pub wraps-large : 65536 < w → w ≡ wrapsAt again w k
+  wraps-large l = rw (lt-ltb 65536 w l)
+
+  pub wraps-small : w ≤ 65536 → wrapsIn again w k ≡ wrapsAt again w k
+  wraps-small l = rw (le-ltb 65536 w l)

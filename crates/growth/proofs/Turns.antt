@@ -1,25 +1,25 @@
 -- The loop over the records between two places of a card, turn by turn, as the code has it in hand: the sum so far and what is left make the whole. Assumes
 -- nothing.
 use mathlib.Core.Path.{_≡_, refl, ap, ap₂, sym, _∙_}
-use mathlib.Core.Bool.{Bool, true, false, _||_}
+use mathlib.Core.Bool.{Bool, true, false, _||_, true≢false}
 use mathlib.Core.List.{List, [], _∷_}
 use Prim.Native.Nat.{ℕ, zero, suc, _+_, _-_, _*_, _^_, _<_, _≤_}
 use native.Mathlib.Omega.{arith}
 use lib.ListN.{length, take, drop, length-take, length-drop}
-use lib.Dec.{eqb}
-use borrow.Author.Tests.{lt-ltb, le-ltb, eq-eqb, ne-eqb}
+use lib.Dec.{eqb, ltb}
+use borrow.Author.Tests.{lt-ltb, le-ltb, ltb-true, ltb-false, eq-eqb, ne-eqb}
 use Rattle.wire.specs.Numbers.{Bytes, num, between}
-use Rattle.wire.proofs.Slices.{tail-is}
 use Rattle.wire.proofs.Within.{Within, within-all, within-take, within-drop, within-front, within-own}
 use Rattle.records.specs.Record.{lengthOf, kindOf, contentOf, restOf, firstRecord}
 use Rattle.records.specs.Reading.{short}
-use Rattle.records.proofs.Tree.{long-enough}
+use Rattle.records.proofs.Tree.{long-enough, enough-long}
+use Rattle.rast.proofs.Tests.{by-test}
 use Rattle.operation.specs.declared.Shortening.{Shortening}
 use Rattle.operation.specs.Operations.{operationOf}
 use Rattle.rewriting.specs.Replaces.{nameIn}
 use Rattle.rewriting.specs.Rewrites.{partsOf, counted, uncounted}
 use Rattle.rewriting.proofs.Parts.{parts-none, parts-step}
-use Rattle.growth.specs.Grows.{isFixed, wrapsIn, useOf, sum, growth, growthAll, cardGrowth}
+use Rattle.growth.specs.Grows.{isFixed, wrapsIn, useOf, sum, growth, growthAll, partGrowth, cardGrowth}
 use Rattle.growth.proofs.Most.{wraps-most, all-small}
 
 -- parts of a card
@@ -40,7 +40,7 @@ module _ (card : Bytes) (at to : ℕ) (h : to ≤ length card) (t : short (betwe
       let b = l .inside in
       (omega arith, omega arith)
 
-  first-part : firstRecord (between card at to) ≡ between card at e
+  pub first-part : firstRecord (between card at to) ≡ between card at e
   first-part =
       let s : Bytes = between card at to in
       let l = long-enough s t in
@@ -48,7 +48,7 @@ module _ (card : Bytes) (at to : ℕ) (h : to ≤ length card) (t : short (betwe
       let a = length-take (4 + lengthOf s) s in
       piece card (firstRecord s) at e (within-take card at s (within-all card at (to - at) s refl) (4 + lengthOf s)) (omega arith)
 
-  rest-part : restOf (between card at to) ≡ between card e to
+  pub rest-part : restOf (between card at to) ≡ between card e to
   rest-part =
       let s : Bytes = between card at to in
       let l = long-enough s t in
@@ -58,7 +58,7 @@ module _ (card : Bytes) (at to : ℕ) (h : to ≤ length card) (t : short (betwe
       let o : at + (4 + lengthOf s) ≡ e = omega arith in
       piece card (restOf s) e to (rw o at (within-drop card at s (within-all card at (to - at) s refl) (4 + lengthOf s))) (omega arith)
 
-  length-same : lengthOf (between card at e) ≡ lengthOf (between card at to)
+  pub length-same : lengthOf (between card at e) ≡ lengthOf (between card at to)
   length-same =
       let f = record-fits in
       let a = f .0 in
@@ -102,7 +102,7 @@ module _ (op : Shortening) where
     unfolding growthAll sum
     all-none t = ap (sum (growth op depth charged again w)) (parts-none c t)
 
-    all-step : short c ≡ false
+    pub all-step : short c ≡ false
         → growthAll op depth charged again w c ≡ growth op depth charged again w (firstRecord c) + growthAll op depth charged again w (restOf c)
     unfolding growthAll sum
     all-step t = ap (sum (growth op depth charged again w)) (parts-step c t)
@@ -233,7 +233,7 @@ module _ {op : Shortening} {whole : ℕ} {card : Bytes} {to left at sum : ℕ} {
   grown = ap (λ (n : ℕ). growth op n uses again wraps (between card at e)) (f .deeper)
 
   -- on, with what the record grows by
-  on : (part : ℕ) → part ≡ growth op deep uses again wraps (between card at e) → Turn op whole card to left e (sum + part) uses again wraps deep
+  pub on : (part : ℕ) → part ≡ growth op deep uses again wraps (between card at e) → Turn op whole card to left e (sum + part) uses again wraps deep
   on part p =
       let r = f .rest in
       record { inside = f .inside; under = f .turn .under; fit = f .turn .fit; most = f .turn .most; same = omega arith }
@@ -367,12 +367,69 @@ module _ (card : Bytes) (from to : ℕ) (h : from ≤ to) (i : to ≤ length car
         ap₂ (λ (j k : ℕ). j + k) (d ∙ ap (growthAll op left charged false 1) front-is)
         (e ∙ ap₂ (λ (q : Bool) (c : Bytes). growthAll op left charged q 1 c) g back-is)
 
--- a whole card
+-- between any two places: nothing where they are not in the card, or a count would be too large
+module _ (op : Shortening) (card : Bytes) (from to : ℕ) (charged again : Bool) (w left : ℕ) where
+  abbrev Part : ℕ
+  Part = partGrowth op card from to charged again w left
+
+  pub part-turned : to < from → 0 ≡ Part
+  unfolding partGrowth
+  part-turned a = rw (lt-ltb to from a)
+
+  module _ (a : from ≤ to) where
+    pub part-past : length card < to → 0 ≡ Part
+    unfolding partGrowth
+    part-past b = rw (le-ltb to from a, lt-ltb (length card) to b)
+
+    module _ (b : to ≤ length card) where
+      pub part-long : 65536 < length card → 0 ≡ Part
+      unfolding partGrowth
+      part-long c = rw (le-ltb to from a, le-ltb (length card) to b, lt-ltb 65536 (length card) c)
+
+      module _ (c : length card ≤ 65536) where
+        pub part-much : 65536 < w + left → 0 ≡ Part
+        unfolding partGrowth
+        part-much d = rw (le-ltb to from a, le-ltb (length card) to b, le-ltb 65536 (length card) c, lt-ltb 65536 (w + left) d)
+
+        pub part-is : w + left ≤ 65536 → growthAll op left charged again w (between card from to) ≡ Part
+        unfolding partGrowth
+        part-is d = rw (le-ltb to from a, le-ltb (length card) to b, le-ltb 65536 (length card) c, le-ltb 65536 (w + left) d)
+
+-- a card
 module _ (op : Shortening) (card : Bytes) where
   pub card-long : 65536 < length card → 0 ≡ cardGrowth op card
   unfolding cardGrowth
-  card-long h = rw (lt-ltb 65536 (length card) h)
+  card-long h =
+      by-test (ltb (length card) (4 + lengthOf card))
+      (λ t. part-past op card 0 (4 + lengthOf card) false false 1 48 (omega arith) (ltb-true (length card) (4 + lengthOf card) t))
+      (λ t. part-long op card 0 (4 + lengthOf card) false false 1 48 (omega arith) (ltb-false (length card) (4 + lengthOf card) t) h)
 
-  pub card-is : length card ≤ 65536 → (n : ℕ) → n ≡ growthAll op 48 false false 1 (between card 0 (length card)) → n ≡ cardGrowth op card
-  unfolding cardGrowth
-  card-is h n e = rw (le-ltb 65536 (length card) h) (e ∙ ap (growthAll op 48 false false 1) (tail-is card 0))
+  module _ (small : length card ≤ 65536) where
+    pub card-none : short card ≡ true → 0 ≡ cardGrowth op card
+    unfolding cardGrowth
+    card-none h =
+        by-test (ltb (length card) (4 + lengthOf card))
+        (λ t. part-past op card 0 (4 + lengthOf card) false false 1 48 (omega arith) (ltb-true (length card) (4 + lengthOf card) t))
+        (λ t. let i = ltb-false (length card) (4 + lengthOf card) t in
+        let l = part-length card 0 (4 + lengthOf card) i in
+        let f : length (between card 0 (4 + lengthOf card)) < 6 = few (ltb-false (length card) (4 + lengthOf card) t) in
+        sym (all-none op 48 false false 1 (between card 0 (4 + lengthOf card)) (few-short (between card 0 (4 + lengthOf card)) f))
+        ∙ part-is op card 0 (4 + lengthOf card) false false 1 48 (omega arith) i small (omega arith))
+      where
+        few : 4 + lengthOf card ≤ length card → length (between card 0 (4 + lengthOf card)) < 6
+        few i =
+            let l = part-length card 0 (4 + lengthOf card) i in
+            by-test (ltb (length card) 6) (λ t. let a = ltb-true (length card) 6 t in omega arith)
+            (λ t. by-test (ltb (lengthOf card) 2) (λ u. let a = ltb-true (lengthOf card) 2 u in omega arith)
+            (λ u. absurd (true≢false (sym h
+            ∙ enough-long card (record { six = ltb-false (length card) 6 t; two = ltb-false (lengthOf card) 2 u; inside = i })))))
+
+        few-short : (s : Bytes) → length s < 6 → short s ≡ true
+        few-short s l = rw (lt-ltb (length s) 6 l)
+
+    pub card-is : short card ≡ false → (l n : ℕ) → l ≡ lengthOf card → n ≡ growthAll op 48 false false 1 (between card 0 (4 + l)) → n ≡ cardGrowth op card
+    unfolding cardGrowth
+    card-is h l n e f =
+        let i = long-enough card h .inside in
+        f ∙ ap (λ (m : ℕ). growthAll op 48 false false 1 (between card 0 (4 + m))) e
+        ∙ part-is op card 0 (4 + lengthOf card) false false 1 48 (omega arith) i small (omega arith)

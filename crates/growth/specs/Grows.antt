@@ -5,8 +5,8 @@ use mathlib.Core.List.{List, [], _∷_}
 use Prim.Native.Nat.{ℕ, zero, suc, _+_, _*_}
 use lib.ListN.{length}
 use lib.Dec.{eqb, ltb}
-use Rattle.wire.specs.Numbers.{Bytes}
-use Rattle.records.specs.Record.{isLeaf, kindOf, contentOf}
+use Rattle.wire.specs.Numbers.{Bytes, between}
+use Rattle.records.specs.Record.{isLeaf, lengthOf, kindOf, contentOf}
 use Rattle.records.specs.Kinds.{stands, path, type, expr}
 use Rattle.factor_paths.specs.Walk.{deeper}
 use Rattle.operation.specs.declared.Shortening.{Shortening}
@@ -21,6 +21,10 @@ isFixed k = isLeaf k || stands path k || eqb k 0x6A || eqb k 0x80
 -- how often a path type is wrapped in a record of kind k
 abbrev pub wrapsIn : Bool → (w k : ℕ) → ℕ
 wrapsIn again w k = cond (stands type k || stands expr k) (deeper again w) w
+
+-- the same for any count: one too large stays
+abbrev pub wrapsAt : Bool → (w k : ℕ) → ℕ
+wrapsAt again w k = cond (ltb 65536 w) w (wrapsIn again w k)
 
 -- a use is 13 bytes longer than a record that holds its path; where uses are charged, each such record is charged one
 abbrev pub useOf : Bool → ℕ → ℕ
@@ -48,6 +52,16 @@ module _ (op : Shortening) where
   unfoldable pub growthAll : ℕ → (charged again : Bool) → (w : ℕ) → Bytes → ℕ
   growthAll depth charged again w c = sum (growth depth charged again w) (partsOf c)
 
-  -- a whole card; nothing of one whose places do not fit a half word
+  -- those between two places of a card; nothing where these are not in it, or a count would be too large
+  unfoldable pub partGrowth : (card : Bytes) → (from to : ℕ) → (charged again : Bool) → (w left : ℕ) → ℕ
+  partGrowth card from to charged again w left =
+      cond (ltb to from || ltb (length card) to || ltb 65536 (length card) || ltb 65536 (w + left)) 0
+      (growthAll left charged again w (between card from to))
+
+  -- a declaration of kind k, by its content
+  unfoldable pub declGrowth : (left : ℕ) (again : Bool) (w k : ℕ) → Bytes → ℕ
+  declGrowth left again w k c = cond (isFixed k) 0 (growthAll left (eqb k 0x62) again w c)
+
+  -- a card's first record, which is all of a sound card
   unfoldable pub cardGrowth : Bytes → ℕ
-  cardGrowth card = cond (ltb 65536 (length card)) 0 (growthAll 48 false false 1 card)
+  cardGrowth card = partGrowth card 0 (4 + lengthOf card) false false 1 48

@@ -9,10 +9,10 @@ ghost use Rattle.wire.specs.Numbers.{between};
 ghost use Rattle.rewriting.specs.Replaces.{nameIn};
 ghost use Rattle.operation.specs.Operations.{operationOf};
 ghost use Rattle.rewriting.specs.Rewrites.{counted, uncounted};
-ghost use Rattle.growth.specs.Grows.{isFixed, wrapsIn, useOf, growthAll, cardGrowth};
+ghost use Rattle.growth.specs.Grows.{isFixed, wrapsIn, wrapsAt, useOf, growthAll, partGrowth};
 
 // Whether nothing in a record of kind k grows: a Text, a Kept, a path, a use.
-fn is_fixed(k: usize) -> bool
+pub fn is_fixed(k: usize) -> bool
     ensures { λ r. ⌜ r ≡ isFixed k ⌝ }
 {
     if k == 1 {
@@ -45,6 +45,16 @@ fn wraps_in(again: bool, w: usize, k: usize) -> usize
         return w + 1;
     }
     w
+}
+
+// The same for any count: one too large stays.
+pub fn wraps_at(again: bool, w: usize, k: usize) -> usize
+    ensures { λ r. ⌜ r ≡ wrapsAt again w k ⌝ }
+{
+    if 65536 < w {
+        return w;
+    }
+    wraps_in(again, w, k)
 }
 
 // Whether uses are charged in a record of kind k: in a nested module they are.
@@ -160,12 +170,33 @@ fn fn_growth(
     a + parts_growth(op, card, mid, to, charged, again, 1, left)
 }
 
-// A whole card.
-pub fn growth(op: Shortening, card: &[u8]) -> usize
-    ensures { λ r. ⌜ r ≡ cardGrowth op (now (card .entry)) ⌝ }
+// The same for any places and counts: where the places are not in the card, or a count would be too large, nothing.
+pub fn part_growth(
+    op: Shortening,
+    card: &[u8],
+    from: usize,
+    to: usize,
+    charged: bool,
+    again: bool,
+    w: usize,
+    left: usize,
+) -> usize
+    ensures { λ r. ⌜ r ≡ partGrowth op (now (card .entry)) from to charged again w left ⌝ }
 {
+    if to < from {
+        return 0;
+    }
+    if card.len() < to {
+        return 0;
+    }
     if 65536 < card.len() {
         return 0;
     }
-    parts_growth(op, card, 0, card.len(), false, false, 1, 48)
+    if 65536 < w {
+        return 0;
+    }
+    if 65536 - w < left {
+        return 0;
+    }
+    parts_growth(op, card, from, to, charged, again, w, left)
 }

@@ -85,7 +85,7 @@ module _ (op : Shortening) (card root : Bytes) (n : ℕ) (sound : admitted (oper
       bodyIn′ : Bytes → Bytes
       bodyIn′ c = contentOf (restOf (restOf (restOf c)))
 
-  module _ (t : Table) (own : Own card root op t) (out : Bytes) (e : isRoomy (outermost op card root) (length out) t ≡ true) where
+  module _ (t : Table) (own : Own card root op t) (out : Bytes) (e : isRoomy (outermost op card root) (length out) (cardGrowth op card) t ≡ true) where
     abbrev Most : ℕ
     Most = room (t .words)
 

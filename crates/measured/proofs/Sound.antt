@@ -36,6 +36,7 @@ use Rattle.modules.specs.Modules.{moduleMade, cardMade}
 use Rattle.modules.proofs.Keeps.{table-length}
 use Rattle.modules.proofs.Outermost.{Outermost, Own, admitted-reads, outermost-is, outermost-again, collected-own}
 use Rattle.measuring.specs.declared.Written.the-variants.{Full, Length}
+use Rattle.growth.specs.Grows.{cardGrowth}
 use Rattle.fitting.specs.Fitting.{surelyFits, isRoomy}
 use Rattle.measuring.specs.Measured.{Output, output, firstMade, written, direct, inTwo, outermost, collected, wholeOutput}
 use Rattle.measured.proofs.Roomy.{roomy-none, roomy-fits}
@@ -158,10 +159,10 @@ module _ (op : Shortening) (card root : Bytes) (n : ℕ) (sound : admitted (oper
           arith)
 
       other : Result (collected op card root words .words) out
-          (cond (isRoomy (outermost op card root) (length out) (collected op card root words)) (direct op card root 0 (collected op card root words) out)
+          (cond (isRoomy (outermost op card root) (length out) (cardGrowth op card) (collected op card root words)) (direct op card root 0 (collected op card root words) out)
           (inTwo op card root 0 (collected op card root words) out))
       other =
-          by-test (isRoomy (outermost op card root) (length out) (collected op card root words))
+          by-test (isRoomy (outermost op card root) (length out) (cardGrowth op card) (collected op card root words))
           (λ t. rw t (at-once z 0 (collected op card root words) (λ e. mine) out
           (roomy-none op card root n sound bc br (collected op card root words) mine out t)
           (roomy-fits op card root n sound bc br (collected op card root words) mine out t)))

@@ -9,13 +9,16 @@ use borrow.Author.Tests.{lt-ltb, le-ltb}
 use Rattle.wire.specs.Numbers.{Bytes}
 use Rattle.operation.specs.declared.Shortening.{Shortening}
 use Rattle.adding.specs.Adds.{Table, table}
+use Rattle.adding.specs.Settles.{settledTable}
 use Rattle.prefix.specs.Prefix.{scope}
 use Rattle.fields.specs.Fields.{namePlace}
+use Rattle.gathering.specs.Gathers.{gathered}
 use Rattle.tables.specs.Tables.{tableOf}
 use Rattle.laying.specs.Lays.{lay}
 use Rattle.modules.specs.Modules.{Made, cardMade}
 use Rattle.writing.specs.Wrote.{Wrote}
 use Rattle.measuring.specs.declared.Written.the-variants.{Full, Length}
+use Rattle.growth.specs.Grows.{cardGrowth}
 use Rattle.fitting.specs.Fitting.{surelyFits, isRoomy}
 use Rattle.measuring.specs.Measured.{Output, output, firstMade, written, direct, inTwo, outermost, collected, wholeOutput}
 
@@ -95,14 +98,14 @@ module _ (op : Shortening) (card root : Bytes) (words : List ℕ) (out : Bytes) 
 
   -- place is where the outermost module's name stands, and mine its table, as the code has them
   module _ {b : Bool} (e : b ≡ surelyFits op card out words) (t : b ≡ false) {place : ℕ} (p : place ≡ namePlace card 0) {mine : Table}
-      (m : mine ≡ tableOf (scope op card root (place ∷ [])) 48 0 65537 (table 0 words))
-      {d : Bool} (f : d ≡ isRoomy (scope op card root (place ∷ [])) (length out) mine) where
+      {surveyed : Table} (g : surveyed ≡ gathered (scope op card root (place ∷ [])) 48 0 words) (m : mine ≡ settledTable surveyed)
+      {grown : ℕ} (h : grown ≡ cardGrowth op card) {d : Bool} (f : d ≡ isRoomy (scope op card root (place ∷ [])) (length out) grown mine) where
     is-mine : mine ≡ collected op card root words
-    unfolding collected
-    is-mine = m ∙ rw p
+    unfolding collected tableOf
+    is-mine = m ∙ ap settledTable g ∙ rw p
 
-    is-roomy : isRoomy (outermost op card root) (length out) (collected op card root words) ≡ d
-    is-roomy = rw (← is-mine, ← p) (sym f)
+    is-roomy : isRoomy (outermost op card root) (length out) (cardGrowth op card) (collected op card root words) ≡ d
+    is-roomy = rw (← is-mine, ← p, ← h) (sym f)
 
     pub roomy-gives : {o : Output} → d ≡ true → o ≡ direct op card root 0 mine out → o ≡ wholeOutput op card root words out
     unfolding wholeOutput

@@ -13,6 +13,7 @@ use Rattle.fields.specs.Fields.{namePlace}
 use Rattle.tables.specs.Tables.{tableOf}
 use Rattle.laying.specs.Lays.{lay}
 use Rattle.modules.specs.Modules.{Made, cardMade}
+use Rattle.growth.specs.Grows.{cardGrowth}
 use Rattle.fitting.specs.Fitting.{surelyFits, isRoomy}
 use Rattle.measuring.specs.declared.Written.{Written}
 use Rattle.measuring.specs.declared.Written.the-variants.{Full, Length}
@@ -61,4 +62,4 @@ module _ (op : Shortening) (card root : Bytes) where
   unfoldable pub wholeOutput : List ℕ → Bytes → Output
   wholeOutput words out =
       let mine : Table = collected words in
-      cond (surelyFits op card out words) (direct 65537 (table 0 words) out) (cond (isRoomy outermost (length out) mine) (direct 0 mine out) (inTwo 0 mine out))
+      cond (surelyFits op card out words) (direct 65537 (table 0 words) out) (cond (isRoomy outermost (length out) (cardGrowth op card) mine) (direct 0 mine out) (inTwo 0 mine out))

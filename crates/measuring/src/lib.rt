@@ -1,7 +1,6 @@
 // The output is written at once where it surely has room. Else it is measured first, by the walk that writes it, over an empty part of the out buffer: a refusal
 // leaves the buffer.
 use operation::Shortening;
-use tables::Held;
 ghost use mathlib.Core.Path.{_≡_};
 ghost use Rattle.adding.specs.Adds.{table};
 ghost use Rattle.measuring.specs.Measured.{output, direct, inTwo, wholeOutput};
@@ -60,7 +59,7 @@ fn measure_first(
     Written::Length(n)
 }
 
-// The outermost module's table is collected first: its uses are then known, and whether the output surely has room.
+// The outermost module's table is collected first: its uses are then known, and whether the output surely has room. The same walk adds up what else can grow.
 pub fn write(op: Shortening, card: &[u8], root: &[u8], out: &mut [u8], work: &mut [u32]) -> Written
     ensures { λ r. ⌜ output r (now (out .exit)) (now (work .exit))
         ≡ wholeOutput op (now (card .entry)) (now (root .entry)) (now (work .entry)) (now (out .entry)) ⌝ }
@@ -69,13 +68,10 @@ pub fn write(op: Shortening, card: &[u8], root: &[u8], out: &mut [u8], work: &mu
         return write_at_once(op, card, root, out, work, 65537, 0);
     }
     let chain: [usize; 1] = [fields::name_place(card, 0)];
-    let none = Held {
-        owner: 65537,
-        pairs: 0,
-    };
-    let held = tables::table_of(op, card, 0, 48, root, &chain, work, none);
-    let pairs = held.pairs;
-    if fitting::is_roomy(op, card, root, &chain, out.len(), work, pairs) {
+    let mine = surveying::survey_card(op, card, root, &chain, work);
+    let pairs = mine.pairs;
+    tables::settle(work, pairs);
+    if fitting::is_roomy(op, card, root, &chain, out.len(), work, pairs, mine.grown) {
         return write_at_once(op, card, root, out, work, 0, pairs);
     }
     measure_first(op, card, root, out, work, 0, pairs)

@@ -1,5 +1,5 @@
 -- Words that hold the module's table, and words that hold another's. Assumes nothing.
-use mathlib.Core.Path.{_≡_}
+use mathlib.Core.Path.{_≡_, ap, _∙_}
 use mathlib.Core.List.{List, _++_}
 use Prim.Native.Nat.{ℕ, _*_, _<_, _≤_}
 use native.Mathlib.Omega.{arith}
@@ -14,21 +14,26 @@ use Rattle.adding.specs.Settles.{settled, settledTable}
 use Rattle.gathering.specs.Gathers.{gathered}
 use Rattle.tables.specs.Tables.{tableOf}
 
+-- a full table is left, any other settled
+module _ (n : ℕ) (words : List ℕ) (most : ℕ) (e : most ≡ room words) where
+  pub settled-full : most < n → table n words ≡ settledTable (table n words)
+  unfolding settledTable
+  settled-full h = rw (lt-ltb (room words) n (omega arith))
+
+  pub settled-own : n ≤ most → (own : List ℕ) → own ≡ settled (take (4 * n) words) → table n (own ++ drop (4 * n) words) ≡ settledTable (table n words)
+  unfolding settledTable
+  settled-own h own x = rw (le-ltb (room words) n (omega arith), x)
+
 module _ (s : Scope) (left at owner : ℕ) (t : Table) where
   pub owner-same : owner ≡ at → t ≡ tableOf s left at owner t
   unfolding tableOf
   owner-same e = rw (eq-eqb owner at e)
 
-  -- another's: the module is collected, and its table settled if it is not full
-  module _ (other : owner ≡ at → ⊥) (n : ℕ) (words : List ℕ) (y : table n words ≡ gathered s left at (t .words)) (most : ℕ) (e : most ≡ room words) where
-    pub owner-full : most < n → table n words ≡ tableOf s left at owner t
-    unfolding tableOf settledTable
-    owner-full h = rw (ne-eqb owner at other, ← y, lt-ltb (room words) n (omega arith))
-
-    pub owner-settled : n ≤ most → (own : List ℕ) → own ≡ settled (take (4 * n) words)
-        → table n (own ++ drop (4 * n) words) ≡ tableOf s left at owner t
-    unfolding tableOf settledTable
-    owner-settled h own x = rw (ne-eqb owner at other, ← y, le-ltb (room words) n (omega arith), x)
+  -- another's: the module is collected, and its table settled
+  pub owner-settled : (owner ≡ at → ⊥) → (n : ℕ) (words after : List ℕ) → table n words ≡ gathered s left at (t .words)
+      → table n after ≡ settledTable (table n words) → table n after ≡ tableOf s left at owner t
+  unfolding tableOf
+  owner-settled other n words after y x = rw (ne-eqb owner at other) (x ∙ ap settledTable y)
 
   -- THE LAW: what holds of words that hold the module's table, and of a table that is collected and settled, holds of the module's table
   pub owner-has : (P : Table → Type 0) → (owner ≡ at → P t) → P (settledTable (gathered s left at (t .words)))

@@ -3,6 +3,7 @@ use operation::Shortening;
 ghost use mathlib.Core.Path.{_≡_};
 ghost use Rattle.prefix.specs.Prefix.{scope};
 ghost use Rattle.adding.specs.Adds.{table};
+ghost use Rattle.adding.specs.Settles.{settledTable};
 ghost use mathlib.Core.Bool.{_&&_};
 ghost use Prim.Native.Nat.{_*_, min};
 ghost use lib.ListN.{length};
@@ -13,6 +14,17 @@ ghost use Rattle.tables.specs.Tables.{tableOf, hasRoom, isSmall};
 pub struct Held {
     pub owner: usize,
     pub pairs: usize,
+}
+
+// The chains of a table that is not full are set anew over its own words: those behind its pairs are free.
+pub fn settle(work: &mut [u32], pairs: usize)
+    ensures { λ r. ⌜ table pairs (now (work .exit)) ≡ settledTable (table pairs (now (work .entry))) ⌝ }
+{
+    if chains::room(work) < pairs {
+        return;
+    }
+    let m = 4 * pairs;
+    adding::settle(&mut work[..m]);
 }
 
 // The table of the module at a place. Words that hold it already, as `held` says, are left: no record is walked. A table that is collected and not full
@@ -34,10 +46,7 @@ pub fn table_of(
         return held;
     }
     let n = collecting::collect_module(op, card, at, left, root, chain, work);
-    if n <= chains::room(work) {
-        let m = 4 * n;
-        adding::settle(&mut work[..m]);
-    }
+    settle(work, n);
     Held {
         owner: at,
         pairs: n,

@@ -1,0 +1,4 @@
+pub mod Cards
+pub mod Decls
+pub mod Fns
+pub mod Here

@@ -1,12 +1,14 @@
 -- What is measured and what is written, test by test. Assumes nothing.
 use mathlib.Core.Path.{_≡_, refl, ap, ap₂, sym, _∙_}
-use mathlib.Core.Bool.{Bool, true, false}
+use mathlib.Core.Bool.{Bool, true, false, not, and-eq-true-iff}
 use mathlib.Core.List.{List, [], _∷_, _++_}
 use Prim.Native.Nat.{ℕ, _+_, _-_, _<_, _≤_}
 use lib.ListN.{length, drop}
-use lib.Dec.{ltb}
-use borrow.Author.Tests.{lt-ltb, le-ltb}
+use lib.Dec.{eqb, leb, ltb}
+use borrow.Author.Tests.{lt-ltb, le-ltb, lt-leb, le-leb, leb-true}
 use Rattle.wire.specs.Numbers.{Bytes}
+use Rattle.wire.proofs.Slices.{tail-is}
+use Rattle.records.specs.Record.{kindOf}
 use Rattle.operation.specs.declared.Shortening.{Shortening}
 use Rattle.adding.specs.Adds.{Table, table}
 use Rattle.adding.specs.Settles.{settledTable}
@@ -15,17 +17,42 @@ use Rattle.fields.specs.Fields.{namePlace}
 use Rattle.gathering.specs.Gathers.{gathered}
 use Rattle.tables.specs.Tables.{tableOf}
 use Rattle.laying.specs.Lays.{lay}
-use Rattle.modules.specs.Modules.{Made, cardMade}
+use Rattle.modules.specs.Modules.{Made, made, moduleMade, cardMade}
 use Rattle.writing.specs.Wrote.{Wrote}
 use Rattle.measuring.specs.declared.Written.the-variants.{Full, Length}
 use Rattle.growth.specs.Grows.{cardGrowth}
 use Rattle.fitting.specs.Fitting.{surelyFits, isRoomy}
-use Rattle.measuring.specs.Measured.{Output, output, firstMade, written, direct, inTwo, outermost, collected, wholeOutput}
+use Rattle.measuring.specs.Measured.{staysWhole, Output, output, firstMade, written, direct, inTwo, outermost, collected, wholeOutput}
 
 -- nothing is laid over no bytes
 none-laid : (b : Bytes) → lay [] 0 b ≡ []
 unfolding lay
 none-laid b = refl
+
+-- a card that stays as it is
+module _ (card : Bytes) where
+  pub stays-not : 65536 < length card → false ≡ staysWhole card
+  unfolding staysWhole
+  stays-not l = rw (lt-leb (length card) 65536 l)
+
+  pub stays-other : length card ≤ 65536 → {k : ℕ} → k ≡ kindOf card → not (eqb k 0x60) ≡ staysWhole card
+  unfolding staysWhole
+  stays-other l e = rw (le-leb (length card) 65536 l, e)
+
+  module _ {b : Bool} (e : b ≡ staysWhole card) (t : b ≡ true) (op : Shortening) (root : Bytes) (owner : ℕ) (held : Table) where
+    tests : (leb (length card) 65536 ≡ true) × (not (eqb (kindOf card) 0x60) ≡ true)
+    unfolding staysWhole
+    tests = and-eq-true-iff (leb (length card) 65536) (not (eqb (kindOf card) 0x60)) .0 (sym e ∙ t)
+
+    made-whole : cardMade op card root owner held ≡ made card 0 owner held
+    unfolding cardMade moduleMade
+    made-whole =
+        let l = leb-true (length card) 65536 (tests .0) in
+        rw (le-ltb 65536 (length card) l, tail-is card 0, tests .1)
+
+    pub direct-whole : (out : Bytes) {after : Bytes} → after ≡ lay out 0 card → output (Length (length card)) after (held .words) ≡ direct op card root owner held out
+    unfolding direct firstMade
+    direct-whole out x = rw (x, made-whole)
 
 -- written at once
 module _ (op : Shortening) (card root : Bytes) (owner₀ : ℕ) (held₀ : Table) {out after : Bytes} {words₁ : List ℕ} {len full owner pairs : ℕ}

@@ -1,11 +1,12 @@
 -- The output is measured before a byte of it is written (01, "The console's answers": 8 and 9 leave the out buffer), unless it surely has room, and every table
 -- too, as it has over a sound card where `surelyFits` or `isRoomy` say so. Assumes nothing: these are definitions.
-use mathlib.Core.Bool.{cond}
+use mathlib.Core.Bool.{Bool, not, _&&_, cond}
 use mathlib.Core.List.{List, [], _∷_}
 use Prim.Native.Nat.{ℕ, _-_}
 use lib.ListN.{length}
-use lib.Dec.{ltb}
+use lib.Dec.{eqb, leb, ltb}
 use Rattle.wire.specs.Numbers.{Bytes}
+use Rattle.records.specs.Record.{kindOf}
 use Rattle.operation.specs.declared.Shortening.{Shortening}
 use Rattle.prefix.specs.Prefix.{Scope, scope}
 use Rattle.adding.specs.Adds.{Table, table}
@@ -26,6 +27,10 @@ pub record Output : Type 0 where
 
 abbrev pub output : Written → Bytes → List ℕ → Output
 output answer out words = record { answer = answer; out = out; words = words }
+
+-- whether a card stays as it is: it is no longer than places reach, and its record is no Mod
+unfoldable pub staysWhole : Bytes → Bool
+staysWhole card = leb (length card) 65536 && not (eqb (kindOf card) 0x60)
 
 module _ (op : Shortening) (card root : Bytes) where
   -- by words that hold this table, of the module at a place: at place 65537 stands none
@@ -62,4 +67,5 @@ module _ (op : Shortening) (card root : Bytes) where
   unfoldable pub wholeOutput : List ℕ → Bytes → Output
   wholeOutput words out =
       let mine : Table = collected words in
-      cond (surelyFits op card out words) (direct 65537 (table 0 words) out) (cond (isRoomy outermost (length out) (cardGrowth op card) mine) (direct 0 mine out) (inTwo 0 mine out))
+      cond (surelyFits op card out words) (direct 65537 (table 0 words) out)
+      (cond (isRoomy outermost (length out) (cardGrowth op card) mine) (direct 0 mine out) (inTwo 0 mine out))

@@ -3,7 +3,7 @@
 use operation::Shortening;
 ghost use mathlib.Core.Path.{_≡_};
 ghost use Rattle.adding.specs.Adds.{table};
-ghost use Rattle.measuring.specs.Measured.{output, direct, inTwo, wholeOutput};
+ghost use Rattle.measuring.specs.Measured.{staysWhole, output, direct, inTwo, wholeOutput};
 
 pub enum Written {
     // the place of the first module whose table is full
@@ -12,7 +12,17 @@ pub enum Written {
     Length(usize),
 }
 
-// Without measuring, given whose table the words hold.
+// Whether a card stays as it is: its record is no Mod.
+fn stays_whole(card: &[u8]) -> bool
+    ensures { λ r. ⌜ r ≡ staysWhole (now (card .entry)) ⌝ }
+{
+    if 65536 < card.len() {
+        return false;
+    }
+    reader::record_kind(card) != 0x60
+}
+
+// Without measuring, given whose table the words hold. A card that stays as it is goes round no ring.
 fn write_at_once(
     op: Shortening,
     card: &[u8],
@@ -25,6 +35,10 @@ fn write_at_once(
     ensures { λ r. ⌜ output r (now (out .exit)) (now (work .exit))
         ≡ direct op (now (card .entry)) (now (root .entry)) owner (table pairs (now (work .entry))) (now (out .entry)) ⌝ }
 {
+    if stays_whole(card) {
+        laying::lay(card, out, 0);
+        return Written::Length(card.len());
+    }
     let w = writing::write_card(op, card, root, out, work, owner, pairs);
     let place = w.full;
     if 0 < place {

@@ -49,7 +49,7 @@ choice-several op prefix bs h =
     rw (ne-eqb (length bs) 1 (λ e. omega arith))
     (by-test (isAmong (samePaths op) prefix bs) (λ t. rw t) (λ t. rw t (by-test (isAmong (samePaths op) Run bs) (λ u. rw u) (λ u. rw u))))
 
--- where the prefix is among them, it is what is chosen, or what is the same
+-- where the prefix is among them no use is brought
 module _ (op : Shortening) (prefix : Bytes) where
   abbrev Brought : List Bytes → Option Bytes
   Brought bs = whether (choice op prefix bs) none (λ b. cond (samePaths op b prefix) none (some b))

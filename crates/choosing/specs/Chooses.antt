@@ -25,7 +25,7 @@ module _ (s : Scope) (words : List ℕ) where
       let two : ℕ = seek (isWanted s words name number Named) words (nextOf words one) in
       cond (eqb one 0) 0 (cond (eqb two 0) one (chosenOfSeveral name number first))
 
-  -- the pair that has the base of the use that pair g brings; one that has the prefix brings none, whatever else has its name
+  -- the pair that has the base of the use that pair g brings; one whose base is place 0, the prefix, brings none, whatever else has its name
   unfoldable pub usePair : ℕ → ℕ
   usePair g =
       let name : Bytes = nameAt (s .card) words (g - 1) in

@@ -91,7 +91,7 @@ fn chosen_after(
 }
 
 // The pair that has the base of the use that pair g brings: the one chosen for its name, unless a pair ahead has the name, or the base is the prefix. Where pair g
-// itself has the prefix nothing is sought.
+// itself has place 0 for its base nothing is sought.
 pub fn use_of(
     op: Shortening,
     card: &[u8],

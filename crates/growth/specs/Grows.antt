@@ -52,7 +52,7 @@ module _ (op : Shortening) where
   unfoldable pub growthAll : ℕ → (charged again : Bool) → (w : ℕ) → Bytes → ℕ
   growthAll depth charged again w c = sum (growth depth charged again w) (partsOf c)
 
-  -- those between two places of a card; nothing where these are not in it, or a count would be too large
+  -- those between two places of a card; nothing where these are not in it, where places do not fit a half word, or a count would be too large
   unfoldable pub partGrowth : (card : Bytes) → (from to : ℕ) → (charged again : Bool) → (w left : ℕ) → ℕ
   partGrowth card from to charged again w left =
       cond (ltb to from || ltb (length card) to || ltb 65536 (length card) || ltb 65536 (w + left)) 0

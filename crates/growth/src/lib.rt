@@ -170,7 +170,8 @@ fn fn_growth(
     a + parts_growth(op, card, mid, to, charged, again, 1, left)
 }
 
-// The same for any places and counts: where the places are not in the card, or a count would be too large, nothing.
+// The records from one place to another, for any places and counts: nothing where they are not in the card, its places do not fit a half word, or a count would
+// be too large.
 pub fn part_growth(
     op: Shortening,
     card: &[u8],

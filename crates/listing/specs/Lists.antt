@@ -1,4 +1,4 @@
--- The changed points over the bytes of a card and of an output, whatever they are: proofs/Sound shows that of a card and an output that Points holds of they
+-- The changed points over the bytes of a card and of an output, whatever they are: placed/proofs/Listing shows that of a card and an output that Points holds of they
 -- are `placesOf`. Assumes nothing: these are definitions.
 use mathlib.Core.Bool.{_&&_, _||_, cond}
 use mathlib.Core.List.{List, [], _∷_, _++_}

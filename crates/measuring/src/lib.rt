@@ -12,7 +12,7 @@ pub enum Written {
     Length(usize),
 }
 
-// Whether a card stays as it is: its record is no Mod.
+// Whether a card stays as it is: its places fit a half word, and its record is no Mod.
 fn stays_whole(card: &[u8]) -> bool
     ensures { λ r. ⌜ r ≡ staysWhole (now (card .entry)) ⌝ }
 {

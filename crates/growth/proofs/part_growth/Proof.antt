@@ -61,7 +61,8 @@ returns-6 c =
     let if4 = c .before .before .if4 in
     let if5 = c .before .if5 in
     let parts-growth = c .parts-growth in
-    parts-growth .ensures ∙ part-is (args .op) (args .card .now) (args .from) (args .to) (args .charged) (args .again) (args .w) (args .left) (if1 .left) (if2 .left) (if3 .left) (omega (arith, if4 .left, if5 .left))
+    parts-growth .ensures ∙ part-is (args .op) (args .card .now) (args .from) (args .to) (args .charged) (args .again) (args .w) (args .left)
+    (if1 .left) (if2 .left) (if3 .left) (omega (arith, if4 .left, if5 .left))
 
 pub part-growth-spec : {M : Type 1} → statement M
 part-growth-spec =

@@ -1,4 +1,6 @@
 // Adding to the table: a name, a part of the card, and a base, the place of a path in the card or 0 for the module's prefix.
+#![tactic(auto)]
+
 ghost use Rattle.std.specs.Prelude.{◌≡◌, ◌<◌};
 ghost use Rattle.prefix.specs.Prefix.{scope};
 ghost use Rattle.chains.specs.Chains.{room};

@@ -1,4 +1,6 @@
 // What is said of a call before its card is walked: the first of refusals 1 to 7 and 11, or sound. No work word is touched.
+#![tactic(auto)]
+
 ghost use Rattle.std.specs.Prelude.{◌≡◌};
 ghost use Rattle.rast.specs.Operation.{upstream};
 ghost use Rattle.outcome.specs.Outcome.{admitted};

@@ -1,8 +1,10 @@
 // The answers of document 01, "The console's answers", a case for each row of its table, and acceptance; and those that the requests of 02 add.
-ghost use Rattle.std.specs.Prelude.{◌≡◌};
-ghost use Rattle.answers.specs.Answers.{number as Answers_number, value as Answers_value, packed as Answers_packed};
+#![tactic(auto)]
 
-#[derive(Drop)]
+ghost use Rattle.std.specs.Prelude.{◌≡◌};
+ghost use Rattle.answers.specs.Answers.{number as answers_number, value as answers_value, packed as answers_packed};
+
+#[derive(Clone, Copy)]
 pub enum Answer {
     // with the output's length
     Shortened(usize),
@@ -21,7 +23,7 @@ pub enum Answer {
 }
 
 // What reading says of bytes; it refuses by ShortRecord, WrongKind, TooDeep, LeftOver and NoName alone.
-#[derive(Drop)]
+#[derive(Clone, Copy)]
 pub enum Verdict {
     Sound,
     Refused(Answer),
@@ -29,7 +31,7 @@ pub enum Verdict {
 
 // The number of an answer in 01's table; 0 is acceptance.
 pub fn number(a: Answer) -> usize
-    ensures { result ≡ Answers_number a }
+    ensures { result ≡ answers_number a }
 {
     match a {
         Answer::Shortened(_) => 0,
@@ -49,7 +51,7 @@ pub fn number(a: Answer) -> usize
 
 // Its length or place.
 pub fn value(a: Answer) -> usize
-    ensures { result ≡ Answers_value a }
+    ensures { result ≡ answers_value a }
 {
     match a {
         Answer::Shortened(n) => n,
@@ -69,7 +71,7 @@ pub fn value(a: Answer) -> usize
 
 // Both in one number, for programs in Rust and C: the number times 2 ^ 32, plus the length or place, of which the lower 32 bits are kept.
 pub fn packed(a: Answer) -> u64
-    ensures { result ≡ Answers_packed a }
+    ensures { result ≡ answers_packed a }
 {
     let n = number(a) as u64;
     let p = value(a) as u64;

@@ -3,6 +3,8 @@
 // number and place. A line `old ROOT CARD OUTLEN WORKLEN PLACES` also lends a list of so many words, or none where PLACES is x; its acceptance ends in the
 // number of entries and the list, or in `x x`. A line `straight ROOT CARD OUTLEN WORKLEN PLACES COUNTS` asks for straight shortening; COUNTS, a second list, is
 // x, and its acceptance ends in `x x` for that.
+#![tactic(auto)]
+
 mod memory;
 mod places;
 
@@ -13,7 +15,7 @@ use libc::{STDERR_FILENO, STDIN_FILENO, STDOUT_FILENO};
 use operation::Pass;
 
 // So many bytes of text are at hand; whether anything has been read; whether there may be more.
-#[derive(Drop)]
+#[derive(Clone, Copy)]
 struct Input {
     have: usize,
     begun: bool,

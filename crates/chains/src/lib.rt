@@ -2,12 +2,14 @@
 // Above a name's place stands the number of the name, which spares most comparisons of names. Pairs whose names' numbers are in the same bucket are
 // chained, the newest first: the lower half of a pair's fourth word is the number of the next one, the upper half that of the first pair of the bucket that has
 // this word's number.
+#![tactic(auto)]
+
 ghost use Rattle.std.specs.Prelude.{◌≡◌, ◌<◌};
-ghost use Rattle.chains.specs.Chains.{room as Chains_room, bucket_of, head_of, next_of};
+ghost use Rattle.chains.specs.Chains.{room as chains_room, bucket_of, head_of, next_of};
 
 // How many pairs words have room for: the number of a pair fits a half word.
 pub fn room(work: &[u32]) -> usize
-    ensures { result ≡ Chains_room work.now }
+    ensures { result ≡ chains_room work.now }
 {
     let n = work.len() / 4;
     if 65535 < n {
@@ -53,7 +55,7 @@ pub fn next(work: &[u32], g: usize) -> usize
 }
 
 // What is sought of a pair beside its name.
-#[derive(Drop)]
+#[derive(Clone, Copy)]
 pub enum Want {
     // nothing
     Named,

@@ -1,4 +1,6 @@
 // What a table says: the pair whose base is chosen for a name, and the use that a pair brings. Pairs are numbered from 1; 0 is none.
+#![tactic(auto)]
+
 ghost use Rattle.std.specs.Prelude.{◌≡◌};
 ghost use Rattle.prefix.specs.Prefix.{scope};
 ghost use Rattle.choosing.specs.Chooses.{chosen_of_several, chosen_pair, use_pair, Oldest};

@@ -1,5 +1,7 @@
 // Collecting: one walk over a module's records puts every pair of name and base into the table. A record that ends its parent is gone on with in the same
 // loop, one less deep; a Text, a Kept and a path are not entered. A record, and the content of one, is the card's bytes from a place to another.
+#![tactic(auto)]
+
 ghost use Rattle.std.specs.Prelude.{◌≡◌, not, ◌||◌, ◌+◌, ◌≤◌, length};
 ghost use Rattle.records.specs.Record.{is_leaf};
 ghost use Rattle.factor_paths.specs.Collects.{a_decl, visited_as, enters};

@@ -1,5 +1,7 @@
 // When two names are the same and when two bases are: asked here alone, and in every operation when their bytes are. And numbers that are the same where these
 // are, to look them up by.
+#![tactic(auto)]
+
 ghost use Rattle.std.specs.Prelude.{◌≡◌, ◌<◌, ◌^◌};
 ghost use Rattle.operation.specs.Operations.{operation_of, same_paths};
 ghost use Rattle.prefix.specs.Prefix.{scope};

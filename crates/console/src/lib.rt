@@ -1,6 +1,8 @@
 // The calls for the console's editor, a host in Rust, and for its screen: numbers and slices alone. Each answers one number, a refusal's times 2 ^ 32, plus the
 // output's length or the place. Those named `_work` are lent work words by the host, and more words let a module have more names; the others bring 2048 of
 // their own. Those named `_places` fill a lent list, and put the number of its entries into a lent word.
+#![tactic(auto)]
+
 ghost use Rattle.operation.specs.declared.Pass.TheVariants.{Upstream, Straight};
 ghost use Rattle.packing.specs.Packed.{PackedAlone, PackedPromise};
 ghost use Rattle.packing.specs.PackedPlaces.{PackedPlacesAlone, PackedPlaces};

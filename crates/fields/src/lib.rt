@@ -1,4 +1,6 @@
 // What a record's kind says of its fields: which are entered in collecting, and which has a declaration's own name.
+#![tactic(auto)]
+
 ghost use Rattle.std.specs.Prelude.{◌≡◌, ◌+◌, ◌^◌, ◌≤◌, ◌<◌};
 ghost use Rattle.factor_paths.specs.Collects.{enters};
 ghost use Rattle.fields.specs.Fields.{offset_of, trait_name_at, name_at, name_place};

@@ -1,4 +1,6 @@
 // Whether an output surely has room, and every table, before anything is written.
+#![tactic(auto)]
+
 ghost use Rattle.std.specs.Prelude.{◌≡◌, ◌&&◌, ◌*◌, ◌/◌, ◌^◌, ◌<◌, ◌≤◌, eqb, leb, ltb};
 ghost use Rattle.size.specs.Bound.{times};
 ghost use Rattle.operation.specs.Operations.{operation_of};

@@ -1,4 +1,6 @@
 // How much longer than its card an output can be, whatever its tables say: one walk over the card that looks nothing up.
+#![tactic(auto)]
+
 ghost use Rattle.std.specs.Prelude.{◌≡◌, false, ◌||◌, ◌+◌, ◌*◌, ◌≤◌, length, eqb};
 ghost use Rattle.wire.specs.Numbers.{between};
 ghost use Rattle.rewriting.specs.Replaces.{name_in};

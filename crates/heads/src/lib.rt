@@ -1,4 +1,6 @@
 // The head of a record laid over the out buffer, before its content or once that is there.
+#![tactic(auto)]
+
 ghost use Rattle.std.specs.Prelude.{◌≡◌, ◌+◌, ◌≤◌, length};
 ghost use Rattle.laying.specs.Lays.{lay};
 ghost use Rattle.heads.specs.Heads.{head_bytes};

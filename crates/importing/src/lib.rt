@@ -1,4 +1,6 @@
 // The uses put ahead of a module's body, in the order in which their names were first collected.
+#![tactic(auto)]
+
 ghost use Rattle.std.specs.Prelude.{◌^◌, ◌<◌, ◌≤◌, length};
 ghost use Rattle.records.specs.Record.{record_bytes};
 ghost use Rattle.operation.specs.Operations.{weight_bytes};

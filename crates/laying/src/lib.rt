@@ -1,6 +1,8 @@
 // Bytes laid over the out buffer from a place on. What lies past its end is not written, so that a walk over an empty buffer measures.
+#![tactic(auto)]
+
 ghost use Rattle.std.specs.Prelude.{◌≡◌, ◌+◌, ◌-◌, ◌<◌, ◌≤◌, min, length, take, drop, replicate};
-ghost use Rattle.laying.specs.Lays.{lay as Lays_lay};
+ghost use Rattle.laying.specs.Lays.{lay as lays_lay};
 
 // The lesser of two numbers.
 pub fn least(a: usize, b: usize) -> usize
@@ -15,7 +17,7 @@ pub fn least(a: usize, b: usize) -> usize
 // The first n bytes, one a turn.
 fn lay_few(src: &[u8], n: usize, out: &mut [u8], at: usize)
     requires { (n ≡ min (length src.now) (length out.old - at)) × (at < length out.old) }
-    ensures { out.new ≡ Lays_lay out.old at src.now }
+    ensures { out.new ≡ lays_lay out.old at src.now }
 {
     let mut k = 0;
     while k < n {
@@ -27,7 +29,7 @@ fn lay_few(src: &[u8], n: usize, out: &mut [u8], at: usize)
 // Eight bytes of src. All are read before one is stored, so that the compiler makes one load and one store of them.
 fn put_eight(src: &[u8], from: usize, out: &mut [u8], at: usize)
     requires { (from + 8 ≤ length src.now) × (at + 8 ≤ length out.old) }
-    ensures { out.new ≡ Lays_lay out.old at (take 8 (drop from src.now)) }
+    ensures { out.new ≡ lays_lay out.old at (take 8 (drop from src.now)) }
 {
     let a = src[from];
     let b = src[from + 1];
@@ -49,7 +51,7 @@ fn put_eight(src: &[u8], from: usize, out: &mut [u8], at: usize)
 
 // Eight bytes a turn, and the last eight, of which some may have been laid before.
 pub fn lay(src: &[u8], out: &mut [u8], at: usize)
-    ensures { out.new ≡ Lays_lay out.old at src.now }
+    ensures { out.new ≡ lays_lay out.old at src.now }
 {
     if out.len() <= at {
         return;
@@ -70,7 +72,7 @@ pub fn lay(src: &[u8], out: &mut [u8], at: usize)
 
 // So many zero bytes.
 pub fn lay_zeros(n: usize, out: &mut [u8], at: usize)
-    ensures { out.new ≡ Lays_lay out.old at (replicate n 0) }
+    ensures { out.new ≡ lays_lay out.old at (replicate n 0) }
 {
     if out.len() <= at {
         return;

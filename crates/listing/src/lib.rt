@@ -1,5 +1,7 @@
 // The list of places: card and output are walked side by side, and an entry is put where a name is shortened and for each use put ahead. The walk stops at a
 // shortened name. An entry that the list has no room for is counted and not put.
+#![tactic(auto)]
+
 ghost use Rattle.std.specs.Prelude.{◌≡◌, ◌&&◌, cond, [], ◌∷◌, ◌+◌, ◌-◌, ◌*◌, ◌^◌, ◌<◌, ◌≤◌, length, take, drop, eqb};
 ghost use Rattle.laying.specs.Lays.{Laid, lay};
 ghost use Rattle.places.specs.Places.{entry_words};

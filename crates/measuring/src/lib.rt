@@ -1,12 +1,14 @@
 // The output is written at once where it surely has room. Else it is measured first, by the walk that writes it, over an empty part of the out buffer: a refusal
 // leaves the buffer.
+#![tactic(auto)]
+
 ghost use Rattle.std.specs.Prelude.{◌≡◌};
 ghost use Rattle.adding.specs.Adds.{table};
 ghost use Rattle.measuring.specs.Measured.{stays_whole, output, direct, in_two, whole_output};
 
 use operation::Shortening;
 
-#[derive(Drop)]
+#[derive(Clone, Copy)]
 pub enum Written {
     // the place of the first module whose table is full
     Full(usize),

@@ -1,9 +1,11 @@
 // Which operation a caller asks for, and which one a walk is of. The code takes these values; the definitions speak of the Operation that they stand for.
+#![tactic(auto)]
+
 ghost use Rattle.std.specs.Prelude.{◌≡◌};
 ghost use Rattle.operation.specs.Operations.{operation_of, weight_of, plain_of, weighed_of};
 
 // What a caller asks for.
-#[derive(Drop)]
+#[derive(Clone, Copy)]
 pub enum Pass {
     // the operation that the Dafny text defines
     Upstream,
@@ -12,7 +14,7 @@ pub enum Pass {
 }
 
 // What a walk does: a pass, and the same to be measured, where every changed point has a weight, so that a length also says how many there are.
-#[derive(Drop)]
+#[derive(Clone, Copy)]
 pub enum Shortening {
     Upstream,
     Straight,

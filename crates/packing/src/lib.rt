@@ -1,4 +1,6 @@
 // The public calls with their answers as one number, for a host: a refusal's number times 2 ^ 32, plus the output's length or the place.
+#![tactic(auto)]
+
 ghost use Rattle.std.specs.Prelude.{◌≡◌, cond, ◌<◌, ◌^◌, eqb};
 ghost use Rattle.answers.specs.Answers.{number, packed};
 ghost use Rattle.packing.specs.Packed.{PackedAlone, PackedPromise};

@@ -1,4 +1,6 @@
 // Paths as the bytes of their records: two paths are the same when their bytes are. And the mark of a name.
+#![tactic(auto)]
+
 ghost use Rattle.std.specs.Prelude.{◌≡◌};
 ghost use Rattle.wire.specs.Numbers.{same_bytes};
 ghost use Rattle.records.specs.Record.{encode};

@@ -1,6 +1,8 @@
 // The output with the list of its changed points. Where the list surely suffices, the output is written and then listed. Else the walk that writes measures
 // first, over an empty part of the out buffer, by the pass that gives each changed point a weight: its length says how long the output is and how many
 // entries there are. The list is filled once the output is written.
+#![tactic(auto)]
+
 ghost use Rattle.std.specs.Prelude.{◌≡◌, []};
 ghost use Rattle.placing.specs.Placing.{tally_of, weighed_made, placing, counted_first, listed_after, placed};
 
@@ -8,7 +10,7 @@ use answers::Answer;
 use measuring::Written;
 use operation::Pass;
 
-#[derive(Drop)]
+#[derive(Clone, Copy)]
 pub struct Tally {
     // the place after that of the first module whose table is full, or 0
     pub full: usize,
@@ -16,7 +18,7 @@ pub struct Tally {
     pub entries: usize,
 }
 
-#[derive(Drop)]
+#[derive(Clone, Copy)]
 pub struct Listed {
     pub answer: Answer,
     // how many entries the list has, two words each; 0 where the answer is a refusal

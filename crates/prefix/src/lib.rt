@@ -1,4 +1,6 @@
 // Whether a path is a module's prefix, without writing the prefix out.
+#![tactic(auto)]
+
 ghost use Rattle.std.specs.Prelude.{◌≡◌};
 ghost use Rattle.wire.specs.Numbers.{same_bytes};
 ghost use Rattle.operation.specs.Operations.{operation_of};

@@ -1,5 +1,7 @@
 // The record at the front of a slice: its length and kind, its own bytes, its content and what follows it, as parts of the slice.
 // Of bytes that are no record each says what its definition says, so nothing is required.
+#![tactic(auto)]
+
 ghost use Rattle.std.specs.Prelude.{◌≡◌, ◌+◌, ◌^◌, ◌<◌, ◌≤◌, take, drop};
 ghost use Rattle.wire.specs.Numbers.{num};
 ghost use Rattle.records.specs.Record.{length_of, kind_of, content_of, rest_of, first_record, record_at};

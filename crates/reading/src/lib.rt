@@ -1,4 +1,6 @@
 // Reading: sound, or the first fault of 4 to 7 and 11 with its place. One pass over the bytes, nothing copied.
+#![tactic(auto)]
+
 ghost use Rattle.std.specs.Prelude.{◌≡◌, ◌^◌, ◌<◌, ◌≤◌, length};
 ghost use Rattle.wire.specs.Numbers.{between};
 ghost use Rattle.records.specs.Kinds.{mod', path};

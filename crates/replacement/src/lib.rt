@@ -1,10 +1,12 @@
 // Whether a path is replaced: whether the base chosen for its name, by the module's table, is its own.
+#![tactic(auto)]
+
 ghost use Rattle.std.specs.Prelude.{◌≡◌, ◌-◌, ◌<◌, ◌≤◌};
 ghost use Rattle.operation.specs.Operations.{same_paths};
 ghost use Rattle.prefix.specs.Prefix.{scope};
 ghost use Rattle.comparing.specs.Compares.{place_in, base_at};
 ghost use Rattle.chains.specs.Chains.{room, word_at};
-ghost use Rattle.rewriting.specs.Replaces.{name_in, base_in, replaces as Replaces_replaces, replaces_type, replaces_expr};
+ghost use Rattle.rewriting.specs.Replaces.{name_in, base_in, replaces as replaces_replaces, replaces_type, replaces_expr};
 
 use chains::Want;
 use operation::Shortening;
@@ -37,7 +39,7 @@ fn replaces(
     name: &[u8],
     base: &[u8],
 ) -> bool
-    ensures { result ≡ Replaces_replaces (scope op card.now root.now chain.now)
+    ensures { result ≡ replaces_replaces (scope op card.now root.now chain.now)
         work.now name.now base.now }
 {
     let number = comparing::number(op, name);

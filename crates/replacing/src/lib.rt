@@ -1,8 +1,10 @@
 // Replacing within a declaration: functions for a function, an expression, a type, and for any record and its parts, call each other in a ring, the remaining
 // depth falling. The module's table is only read. What is written goes to out from a place on, as far as out reaches; the answer is the place where it ends.
+#![tactic(auto)]
+
 ghost use Rattle.std.specs.Prelude.{◌≡◌, suc, ◌≤◌};
 ghost use Rattle.records.specs.Record.{kind_of};
-ghost use Rattle.factor_paths.specs.Walk.{a_type, an_expr, step_of, deeper as Walk_deeper};
+ghost use Rattle.factor_paths.specs.Walk.{a_type, an_expr, step_of, deeper as walk_deeper};
 ghost use Rattle.prefix.specs.Prefix.{scope};
 ghost use Rattle.laying.specs.Lays.{Laid};
 ghost use Rattle.rewriting.specs.Rewrites.{rewrite, parts, kept, function, declaration};
@@ -115,7 +117,7 @@ fn replace_type(
     at: usize,
 ) -> usize
     requires room { Room at (rewrite (scope op card.now root.now chain.now) work.now (suc left) again w r.now) w (suc left) r.now }
-    requires r_value { step_of (kind_of r.now) ≡ a_type }
+    requires step { step_of (kind_of r.now) ≡ a_type }
     ensures { Laid out.old at
         (rewrite (scope op card.now root.now chain.now) work.now (suc left) again w r.now)
         result out.new }
@@ -154,7 +156,7 @@ fn replace_expr(
     at: usize,
 ) -> usize
     requires room { Room at (rewrite (scope op card.now root.now chain.now) work.now (suc left) again w r.now) w (suc left) r.now }
-    requires r_value { step_of (kind_of r.now) ≡ an_expr }
+    requires step { step_of (kind_of r.now) ≡ an_expr }
     ensures { Laid out.old at
         (rewrite (scope op card.now root.now chain.now) work.now (suc left) again w r.now)
         result out.new }
@@ -191,7 +193,7 @@ fn replace_fn(
     at: usize,
 ) -> usize
     requires room { Room at (function (scope op card.now root.now chain.now) work.now left r.now) 1 left r.now }
-    requires r_value { kind_of r.now ≡ 0x7D }
+    requires kind { kind_of r.now ≡ 0x7D }
     ensures { Laid out.old at
         (function (scope op card.now root.now chain.now) work.now left r.now)
         result out.new }
@@ -232,7 +234,7 @@ fn replace_fn(
 // One more where types are counted.
 fn deeper(again: bool, w: usize) -> usize
     requires { w ≤ 65536 }
-    ensures { result ≡ Walk_deeper again w }
+    ensures { result ≡ walk_deeper again w }
 {
     if again {
         return w + 1;

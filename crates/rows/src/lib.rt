@@ -1,9 +1,11 @@
 // The rows of child places, one for each kind, which kinds may stand at a place, and what is no name where one is due. A place is a number: 0 is
 // none, 1 to 0x1A one record, 0x20 more a seq of it, 0x40 more an Option of it. leaf_at and place_of name the places of one record.
+#![tactic(auto)]
+
 ghost use Rattle.std.specs.Prelude.{◌≡◌, cond, ℕ, ◌<◌, ◌≤◌, get_or, eqb, ltb};
 ghost use Rattle.records.specs.Kinds.{stands};
 ghost use Rattle.records.specs.Reading.{nameless};
-ghost use Rattle.rows.specs.Codes.{place_of, table as Codes_table};
+ghost use Rattle.rows.specs.Codes.{place_of, table as codes_table};
 
 // A row for each kind from 0 to 0x86: a byte for each field's place, the first field's the lowest.
 const ROWS: [u64; 135] = [
@@ -146,7 +148,7 @@ const ROWS: [u64; 135] = [
 
 // The rows, for a walk to make once and lend on: a constant that is read in place is written out anew each time.
 pub fn table() -> [u64; 135]
-    ensures { result ≡ Codes_table }
+    ensures { result ≡ codes_table }
 {
     ROWS
 }

@@ -1,7 +1,9 @@
 // Seeking in a chain: the first pair from one on that has a name and what else is wanted of it. Words alone tell most pairs apart.
+#![tactic(auto)]
+
 ghost use Rattle.std.specs.Prelude.{◌≡◌, ◌-◌, ◌<◌, ◌≤◌};
 ghost use Rattle.prefix.specs.Prefix.{scope};
-ghost use Rattle.chains.specs.Chains.{room as Chains_room, has_wanted, is_other, is_wanted, may_be, may_have, seek as Chains_seek};
+ghost use Rattle.chains.specs.Chains.{room as chains_room, has_wanted, is_other, is_wanted, may_be, may_have, seek as chains_seek};
 
 use chains::Want;
 use operation::Shortening;
@@ -61,7 +63,7 @@ fn is_wanted(
     number: usize,
     want: Want,
 ) -> bool
-    requires { (0 < g) × (g ≤ Chains_room work.now) }
+    requires { (0 < g) × (g ≤ chains_room work.now) }
     ensures { result
         ≡ is_wanted (scope op card.now root.now chain.now) work.now name.now number want (g - 1) }
 {
@@ -84,8 +86,8 @@ fn is_wanted(
 // The first pair of the chain from a pair on of which the word at this field leaves open that it is sought: the number above the place is this one, or there
 // is no place. Under a name with many bases nearly every link is to the pair just ahead; told apart, such a link is not waited for.
 fn pass(work: &[u32], from: usize, field: usize, number: usize) -> usize
-    requires { (from ≤ Chains_room work.now) × (field < 4) }
-    ensures { result ≡ Chains_seek (may_be work.now field number) work.now from }
+    requires { (from ≤ chains_room work.now) × (field < 4) }
+    ensures { result ≡ chains_seek (may_be work.now field number) work.now from }
 {
     let mut p = from;
     while 0 < p {
@@ -114,8 +116,8 @@ fn pass(work: &[u32], from: usize, field: usize, number: usize) -> usize
 // The first pair that the numbers alone do not tell from what is sought: that of the base, where it is a path of the card, else that of the name. Under one
 // name there can be many bases.
 fn skip(work: &[u32], from: usize, number: usize, want: Want) -> usize
-    requires { from ≤ Chains_room work.now }
-    ensures { result ≡ Chains_seek (may_have work.now number want) work.now from }
+    requires { from ≤ chains_room work.now }
+    ensures { result ≡ chains_seek (may_have work.now number want) work.now from }
 {
     let Want::Based(v) = want else {
         return pass(work, from, 0, number);
@@ -138,7 +140,7 @@ fn seek_some(
     number: usize,
     want: Want,
 ) -> usize
-    ensures { result ≡ Chains_seek
+    ensures { result ≡ chains_seek
         (is_wanted (scope op card.now root.now chain.now) work.now name.now number want)
         work.now from }
 {
@@ -169,7 +171,7 @@ pub fn seek(
     number: usize,
     want: Want,
 ) -> usize
-    ensures { result ≡ Chains_seek
+    ensures { result ≡ chains_seek
         (is_wanted (scope op card.now root.now chain.now) work.now name.now number want)
         work.now from }
 {

@@ -1,5 +1,7 @@
 // Shortens the card on standard input, with crate as its root, and writes the output's bytes; a refusal is one line, `refused N at P`. Where
 // standard input can't be read or standard output can't be written, standard error says so.
+#![tactic(auto)]
+
 use answers::Answer;
 use libc::{STDERR_FILENO, STDIN_FILENO, STDOUT_FILENO};
 use operation::Pass;

@@ -1,4 +1,6 @@
 // The public call: a card is admitted, and its output written where it has room; the work words are zero after it.
+#![tactic(auto)]
+
 ghost use Rattle.std.specs.Prelude.{◌≡◌};
 ghost use Rattle.shortening.specs.Shortened.{answer_of, Promise};
 

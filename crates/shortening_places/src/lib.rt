@@ -1,4 +1,6 @@
 // The public call with a lent list of places.
+#![tactic(auto)]
+
 ghost use Rattle.shortening_places.specs.Placed.{Promise};
 
 use answers::{Answer, Verdict};

@@ -1,4 +1,6 @@
 // The public call with a lent list of places and work words of its own: fewer where the card can't have as many pairs as 2048 have room for.
+#![tactic(auto)]
+
 ghost use Rattle.std.specs.Prelude.{◌/◌, ◌≤◌, min, length};
 ghost use Rattle.chains.specs.Chains.{room};
 ghost use Rattle.shortening.specs.Shortened.{Admitted};

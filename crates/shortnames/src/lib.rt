@@ -1,9 +1,11 @@
 // What is written where a path's type or expression stands: the short name, or the record as it is.
+#![tactic(auto)]
+
 ghost use Rattle.std.specs.Prelude.{◌≡◌, ◌^◌, ◌≤◌, length};
 ghost use Rattle.records.specs.Record.{record_bytes};
 ghost use Rattle.prefix.specs.Prefix.{scope};
 ghost use Rattle.laying.specs.Lays.{Laid, lay};
-ghost use Rattle.rewriting.specs.Shorts.{synonym_bytes, unfit as Shorts_unfit, type_laid, expr_laid};
+ghost use Rattle.rewriting.specs.Shorts.{synonym_bytes, unfit as shorts_unfit, type_laid, expr_laid};
 
 use operation::Shortening;
 
@@ -40,7 +42,7 @@ fn lay_synonyms(name: &[u8], r: &[u8], w: usize, out: &mut [u8], at: usize) -> u
 
 // Whether a place, a count or a length is one that no card brings about.
 fn unfit(at: usize, w: usize, n: usize) -> bool
-    ensures { result ≡ Shorts_unfit at w n }
+    ensures { result ≡ shorts_unfit at w n }
 {
     if 2305843009213693952 < at {
         return true;

@@ -1,1 +1,2 @@
 // How much longer than its card an output can be: the theorems stand in proofs/.
+#![tactic(auto)]

@@ -1,11 +1,13 @@
 // What a walk does at a record, by its kind.
+#![tactic(auto)]
+
 ghost use Rattle.std.specs.Prelude.{◌≡◌};
-ghost use Rattle.records.specs.Kinds.{kinds, stands as Kinds_stands};
+ghost use Rattle.records.specs.Kinds.{kinds, stands as kinds_stands};
 ghost use Rattle.steps.specs.Steps.{is_left};
 
 // Whether a kind lies from one to another.
 pub fn stands(from: usize, to: usize, k: usize) -> bool
-    ensures { result ≡ Kinds_stands (kinds from to) k }
+    ensures { result ≡ kinds_stands (kinds from to) k }
 {
     if k < from {
         return false;

@@ -1,5 +1,7 @@
 // The outermost module's table and by how much the card can grow, in one walk: collecting's, with growth's sum. What collecting does not enter, growth walks
 // by itself.
+#![tactic(auto)]
+
 ghost use Rattle.std.specs.Prelude.{◌≡◌, true, false, ◌+◌, ◌≤◌, length};
 ghost use Rattle.wire.specs.Numbers.{between};
 ghost use Rattle.factor_paths.specs.Collects.{a_decl, visited_as};
@@ -14,7 +16,7 @@ ghost use Rattle.surveying.specs.Surveys.{is_parted};
 use operation::Shortening;
 
 // How many pairs the table has, as adding::add's answer, and by how much what was walked can grow.
-#[derive(Drop)]
+#[derive(Clone, Copy)]
 pub struct Survey {
     pub pairs: usize,
     pub grown: usize,
@@ -254,8 +256,8 @@ fn survey_fn(
     work: &mut [u32],
     n: usize,
 ) -> Survey
-    requires from_le_to { (from ≤ to) × (to ≤ length card.now) × (length card.now ≤ 65536) × (left ≤ 65535) }
-    requires to_value { is_parted (between card.now from to) ≡ true }
+    requires within { (from ≤ to) × (to ≤ length card.now) × (length card.now ≤ 65536) × (left ≤ 65535) }
+    requires parted { is_parted (between card.now from to) ≡ true }
     ensures { (table result.pairs work.new
         ≡ parts_added (scope op card.now root.now chain.now) left 0x7D (table n work.old) from to)
         × (result.grown ≡ growth_all op left false false 1 (uncounted (between card.now from to))

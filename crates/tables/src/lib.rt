@@ -1,4 +1,6 @@
 // Whose table work words hold. A table that is the module's already is left, so what another module took is collected again only once it is needed again.
+#![tactic(auto)]
+
 ghost use Rattle.std.specs.Prelude.{◌≡◌, ◌&&◌, ◌*◌, min, length, eqb};
 ghost use Rattle.prefix.specs.Prefix.{scope};
 ghost use Rattle.adding.specs.Adds.{table};
@@ -8,7 +10,7 @@ ghost use Rattle.tables.specs.Tables.{table_of, has_room, is_small};
 use operation::Shortening;
 
 // The place in the card of the module whose table words hold, and how many pairs it has.
-#[derive(Drop)]
+#[derive(Clone, Copy)]
 pub struct Held {
     pub owner: usize,
     pub pairs: usize,

@@ -1,5 +1,7 @@
 // Shortens cards from standard input, one to a line, ROOT CARD WORDS, and writes the module that comes out with each synonym taken as its display, as
 // the text's ToString has it: a Text in quotes, a Kept in hexadecimal, a List in brackets, any other record's fields in parentheses behind its kind.
+#![tactic(auto)]
+
 use answers::Answer;
 use libc::STDOUT_FILENO;
 use operation::Pass;

@@ -1,6 +1,8 @@
 // Reads cases from standard input, one to a line, ROOT CARD WORDS: the root's and the card's bytes in hexadecimal, - for none, and how many
 // work words are lent. Writes for each what the outermost module collects: its pairs of name and base, the base chosen for each name, and the
 // uses, each on a line, and then how many pairs there are; or the number and place of a refusal.
+#![tactic(auto)]
+
 ghost use Rattle.std.specs.Prelude.{◌<◌};
 
 use answers::{Answer, Verdict};
@@ -110,7 +112,7 @@ fn say_use(card: &[u8], root: &[u8], chain: &[usize], work: &[u32], g: usize) {
 }
 
 // What is said of each pair in turn.
-#[derive(Drop)]
+#[derive(Clone, Copy)]
 enum Said {
     Pairs,
     Choices,

@@ -1,4 +1,6 @@
 // Standard input as the text of cases: room for it, reading it, and what is said of a line that is no case and of a refusal.
+#![tactic(auto)]
+
 ghost use Rattle.std.specs.Prelude.{◌≡◌, ◌≤◌, length};
 ghost use Rattle.io.specs.Counts.{IsPrefixLen};
 

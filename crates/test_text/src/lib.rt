@@ -1,11 +1,13 @@
 // What a program that reads cases from lines of text is made of: the fields of a line, what hexadecimal and decimal digits say, and whether a
 // line is a case. Nothing is required: where a digit is none, or there is no room, decoding stops there.
+#![tactic(auto)]
+
 ghost use Rattle.std.specs.Prelude.{◌≡◌, ◌+◌, ◌-◌, ◌≤◌, length, take, drop};
-ghost use Rattle.test_text.specs.Text.{FirstAt, until as Text_until, beyond as Text_beyond, hex_value, hex_first, Decoded, decimal_of};
+ghost use Rattle.test_text.specs.Text.{FirstAt, until as text_until, beyond as text_beyond, hex_value, hex_first, Decoded, decimal_of};
 ghost use Rattle.test_text.specs.Text.{are_digits, is_hex, is_number, Apart};
 
 // What a line says.
-#[derive(Drop)]
+#[derive(Clone, Copy)]
 pub enum Line {
     // a case: how many bytes the root and the card have, and how many words there are
     Case(usize, usize, usize),
@@ -50,21 +52,21 @@ pub fn past(s: &[u8], e: usize) -> &[u8]
 
 // What stands ahead of the first byte b: a field, or a line.
 pub fn until(s: &[u8], b: u8) -> &[u8]
-    ensures { result.now ≡ Text_until b s.now }
+    ensures { result.now ≡ text_until b s.now }
 {
     front(s, find(s, b))
 }
 
 // What follows the first byte b.
 pub fn beyond(s: &[u8], b: u8) -> &[u8]
-    ensures { result.now ≡ Text_beyond b s.now }
+    ensures { result.now ≡ text_beyond b s.now }
 {
     past(s, find(s, b))
 }
 
 // The line of text that starts at i.
 pub fn line_at(text: &[u8], i: usize) -> &[u8]
-    ensures { (result.now ≡ Text_until 10 (drop i text.now)) × (length result.now ≤ length text.now - i) }
+    ensures { (result.now ≡ text_until 10 (drop i text.now)) × (length result.now ≤ length text.now - i) }
 {
     until(wire::part(text, i, text.len()), b'\n')
 }

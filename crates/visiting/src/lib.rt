@@ -1,5 +1,7 @@
 // What is added to the table at a record itself: the path of a type or an expression, and a declaration's own name. A record's content is the card's
 // bytes from a place to another. A card so long that its places do not fit a half word adds nothing.
+#![tactic(auto)]
+
 ghost use Rattle.std.specs.Prelude.{◌≡◌, cond, length};
 ghost use Rattle.factor_paths.specs.LookUp.{bare};
 ghost use Rattle.prefix.specs.Prefix.{scope};

@@ -1,4 +1,6 @@
 // Bytes as numbers, comparing bytes, and a part of a slice.
+#![tactic(auto)]
+
 ghost use Rattle.std.specs.Prelude.{◌≡◌, ◌+◌, ◌<◌, ◌≤◌, ◌^◌, length, take, drop};
 ghost use Rattle.wire.specs.Numbers.{num, same_bytes};
 

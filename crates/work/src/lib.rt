@@ -1,4 +1,6 @@
 // The lent work words, of 32 bits.
+#![tactic(auto)]
+
 ghost use Rattle.std.specs.Prelude.{◌≡◌, length, replicate};
 ghost use Rattle.work.specs.Copies.{over};
 ghost use Rattle.work.specs.Taken.{for_table};

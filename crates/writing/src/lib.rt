@@ -1,6 +1,8 @@
 // Writing a module: functions for a module, its body and a declaration call each other in a ring, the remaining depth falling. The work words hold a module's
 // table, and behind it those of modules in it; a small module borrows the last words. Each is lent the part of the out buffer that starts where its parent has
 // got to, and writes as far as that reaches: with an empty part, it measures.
+#![tactic(auto)]
+
 ghost use Rattle.std.specs.Prelude.{◌≡◌, true, [], ◌∷◌, ◌++◌, ◌+◌, ◌-◌, ◌<◌, ◌≤◌, length, take};
 ghost use Rattle.adding.specs.Adds.{table};
 ghost use Rattle.gathering.specs.Gathers.{span};
@@ -12,7 +14,7 @@ use operation::Shortening;
 use tables::Held;
 
 // How long what was made is; the place after that of the first module whose table is full, 0 where none is; whose table the words hold, and its pairs.
-#[derive(Drop)]
+#[derive(Clone, Copy)]
 pub struct Piece {
     pub length: usize,
     pub full: usize,

@@ -11,7 +11,7 @@ returns c =
     let packed = c.packed in (
       packed.ensures,
       elim c.if-number-eq0.branch [
-        then-number-eq0 w ↦ w.entries-is ∙ put-by args.r _ _ number.ensures w.if-number-eq0.true
-      | else-number-eq0 w ↦ w.entries-is ∙ left_by args.r _ _ number.ensures w.if-number-eq0.false
+        | then-number-eq0 w ↦ w.entries-is ∙ put-by args.r _ _ number.ensures w.if-number-eq0.true
+        | else-number-eq0 w ↦ w.entries-is ∙ left_by args.r _ _ number.ensures w.if-number-eq0.false
       ],
     )

@@ -22,6 +22,6 @@ returns c =
     let n = c.record_length-e.ensures.0 in
     c.verdict.ensures ∙ c.read_content.ensures
     ∙ elim c.if-e-to.branch [
-      then-e-to w ↦ row_cut _ _ s c.if-e-to.to c.requires.0 c.requires.1 (omega arith) (omega arith)
-    | else-e-to w ↦ row-all _ _ s c.if-e-to.to c.requires.0 c.requires.1 w.to-is
+      | then-e-to w ↦ row_cut _ _ s c.if-e-to.to c.requires.0 c.requires.1 (omega arith) (omega arith)
+      | else-e-to w ↦ row-all _ _ s c.if-e-to.to c.requires.0 c.requires.1 w.to-is
     ]

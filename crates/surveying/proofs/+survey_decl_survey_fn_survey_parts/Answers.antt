@@ -147,162 +147,162 @@ survey_parts-overflow_add-next-in-loop-at t c =
 pub survey_parts-overflow_add-i : goal.survey_parts-overflow_add-i
 survey_parts-overflow_add-i t c =
     let h :
-        let a = c.args in
-        let l = c.loop-at in
-        let s = scope a.op a.card.now a.root.now a.chain.now in
-        Here a.op s (parts_added s a.left a.k (table a.n a.work.now) a.from a.to)
-        (growth_all a.op a.left false a.again a.w (between a.card.now a.from a.to)) a.to a.left
-        (table l.m l.work) l.at l.of l.i l.deep l.sum a.again l.wraps
-        c.record_kind-j.result c.record_length.result =
-        let inv = c.loop-at.invariant in
-        let pre = c.requires in
-        law.here inv.0 inv.1 pre.1 pre.2 c.is_short.ensures c.if-is_short.false c.if-deep-eq0.false
-        c.record_length.ensures c.record_kind-j.ensures in
+    let a = c.args in
+    let l = c.loop-at in
+    let s = scope a.op a.card.now a.root.now a.chain.now in
+    Here a.op s (parts_added s a.left a.k (table a.n a.work.now) a.from a.to)
+    (growth_all a.op a.left false a.again a.w (between a.card.now a.from a.to)) a.to a.left
+    (table l.m l.work) l.at l.of l.i l.deep l.sum a.again l.wraps
+    c.record_kind-j.result c.record_length.result =
+    let inv = c.loop-at.invariant in
+    let pre = c.requires in
+    law.here inv.0 inv.1 pre.1 pre.2 c.is_short.ensures c.if-is_short.false c.if-deep-eq0.false
+    c.record_length.ensures c.record_kind-j.ensures in
     omega (arith, h.going.counted, h.going.ordered, c.requires.1, c.requires.2)
 
 pub survey_parts-loop-at-smaller-then-j-eq1 : goal.survey_parts-loop-at-smaller-then-j-eq1
 survey_parts-loop-at-smaller-then-j-eq1 t c =
     let h :
-        let a = c.args in
-        let l = c.loop-at in
-        let s = scope a.op a.card.now a.root.now a.chain.now in
-        Here a.op s (parts_added s a.left a.k (table a.n a.work.now) a.from a.to)
-        (growth_all a.op a.left false a.again a.w (between a.card.now a.from a.to)) a.to a.left
-        (table l.m l.work) l.at l.of l.i l.deep l.sum a.again l.wraps
-        c.record_kind-j.result c.record_length.result =
-        let inv = c.loop-at.invariant in
-        let pre = c.requires in
-        law.here inv.0 inv.1 pre.1 pre.2 c.is_short.ensures c.if-is_short.false c.if-deep-eq0.false
-        c.record_length.ensures c.record_kind-j.ensures in
+    let a = c.args in
+    let l = c.loop-at in
+    let s = scope a.op a.card.now a.root.now a.chain.now in
+    Here a.op s (parts_added s a.left a.k (table a.n a.work.now) a.from a.to)
+    (growth_all a.op a.left false a.again a.w (between a.card.now a.from a.to)) a.to a.left
+    (table l.m l.work) l.at l.of l.i l.deep l.sum a.again l.wraps
+    c.record_kind-j.result c.record_length.result =
+    let inv = c.loop-at.invariant in
+    let pre = c.requires in
+    law.here inv.0 inv.1 pre.1 pre.2 c.is_short.ensures c.if-is_short.false c.if-deep-eq0.false
+    c.record_length.ensures c.record_kind-j.ensures in
     omega (arith, h.head.after-head, h.head.inside)
 
 pub survey_parts-loop-at-preserved-then-j-eq1 : goal.survey_parts-loop-at-preserved-then-j-eq1
 survey_parts-loop-at-preserved-then-j-eq1 t c =
     let h :
-        let a = c.args in
-        let l = c.loop-at in
-        let s = scope a.op a.card.now a.root.now a.chain.now in
-        Here a.op s (parts_added s a.left a.k (table a.n a.work.now) a.from a.to)
-        (growth_all a.op a.left false a.again a.w (between a.card.now a.from a.to)) a.to a.left
-        (table l.m l.work) l.at l.of l.i l.deep l.sum a.again l.wraps
-        c.record_kind-j.result c.record_length.result =
-        let inv = c.loop-at.invariant in
-        let pre = c.requires in
-        law.here inv.0 inv.1 pre.1 pre.2 c.is_short.ensures c.if-is_short.false c.if-deep-eq0.false
-        c.record_length.ensures c.record_kind-j.ensures in
+    let a = c.args in
+    let l = c.loop-at in
+    let s = scope a.op a.card.now a.root.now a.chain.now in
+    Here a.op s (parts_added s a.left a.k (table a.n a.work.now) a.from a.to)
+    (growth_all a.op a.left false a.again a.w (between a.card.now a.from a.to)) a.to a.left
+    (table l.m l.work) l.at l.of l.i l.deep l.sum a.again l.wraps
+    c.record_kind-j.result c.record_length.result =
+    let inv = c.loop-at.invariant in
+    let pre = c.requires in
+    law.here inv.0 inv.1 pre.1 pre.2 c.is_short.ensures c.if-is_short.false c.if-deep-eq0.false
+    c.record_length.ensures c.record_kind-j.ensures in
     (law.text-goes h c.if-j-eq1.true, law.text-grows h c.if-j-eq1.true, omega (arith, c.loop-at.invariant.2))
 
 pub survey_parts-overflow_add-i-then-j-eq3 : goal.survey_parts-overflow_add-i-then-j-eq3
 survey_parts-overflow_add-i-then-j-eq3 t c =
     let h :
-        let a = c.args in
-        let l = c.loop-at in
-        let s = scope a.op a.card.now a.root.now a.chain.now in
-        Here a.op s (parts_added s a.left a.k (table a.n a.work.now) a.from a.to)
-        (growth_all a.op a.left false a.again a.w (between a.card.now a.from a.to)) a.to a.left
-        (table l.m l.work) l.at l.of l.i l.deep l.sum a.again l.wraps
-        c.record_kind-j.result c.record_length.result =
-        let inv = c.loop-at.invariant in
-        let pre = c.requires in
-        law.here inv.0 inv.1 pre.1 pre.2 c.is_short.ensures c.if-is_short.false c.if-deep-eq0.false
-        c.record_length.ensures c.record_kind-j.ensures in
+    let a = c.args in
+    let l = c.loop-at in
+    let s = scope a.op a.card.now a.root.now a.chain.now in
+    Here a.op s (parts_added s a.left a.k (table a.n a.work.now) a.from a.to)
+    (growth_all a.op a.left false a.again a.w (between a.card.now a.from a.to)) a.to a.left
+    (table l.m l.work) l.at l.of l.i l.deep l.sum a.again l.wraps
+    c.record_kind-j.result c.record_length.result =
+    let inv = c.loop-at.invariant in
+    let pre = c.requires in
+    law.here inv.0 inv.1 pre.1 pre.2 c.is_short.ensures c.if-is_short.false c.if-deep-eq0.false
+    c.record_length.ensures c.record_kind-j.ensures in
     omega (arith, h.going.counted, h.going.ordered, c.requires.1, c.requires.2)
 
 pub survey_parts-loop-at-smaller-then-j-eq3 : goal.survey_parts-loop-at-smaller-then-j-eq3
 survey_parts-loop-at-smaller-then-j-eq3 t c =
     let h :
-        let a = c.args in
-        let l = c.loop-at in
-        let s = scope a.op a.card.now a.root.now a.chain.now in
-        Here a.op s (parts_added s a.left a.k (table a.n a.work.now) a.from a.to)
-        (growth_all a.op a.left false a.again a.w (between a.card.now a.from a.to)) a.to a.left
-        (table l.m l.work) l.at l.of l.i l.deep l.sum a.again l.wraps
-        c.record_kind-j.result c.record_length.result =
-        let inv = c.loop-at.invariant in
-        let pre = c.requires in
-        law.here inv.0 inv.1 pre.1 pre.2 c.is_short.ensures c.if-is_short.false c.if-deep-eq0.false
-        c.record_length.ensures c.record_kind-j.ensures in
+    let a = c.args in
+    let l = c.loop-at in
+    let s = scope a.op a.card.now a.root.now a.chain.now in
+    Here a.op s (parts_added s a.left a.k (table a.n a.work.now) a.from a.to)
+    (growth_all a.op a.left false a.again a.w (between a.card.now a.from a.to)) a.to a.left
+    (table l.m l.work) l.at l.of l.i l.deep l.sum a.again l.wraps
+    c.record_kind-j.result c.record_length.result =
+    let inv = c.loop-at.invariant in
+    let pre = c.requires in
+    law.here inv.0 inv.1 pre.1 pre.2 c.is_short.ensures c.if-is_short.false c.if-deep-eq0.false
+    c.record_length.ensures c.record_kind-j.ensures in
     omega (arith, h.head.after-head, h.head.inside)
 
 pub survey_parts-loop-at-preserved-then-j-eq3 : goal.survey_parts-loop-at-preserved-then-j-eq3
 survey_parts-loop-at-preserved-then-j-eq3 t c =
     let h :
-        let a = c.args in
-        let l = c.loop-at in
-        let s = scope a.op a.card.now a.root.now a.chain.now in
-        Here a.op s (parts_added s a.left a.k (table a.n a.work.now) a.from a.to)
-        (growth_all a.op a.left false a.again a.w (between a.card.now a.from a.to)) a.to a.left
-        (table l.m l.work) l.at l.of l.i l.deep l.sum a.again l.wraps
-        c.record_kind-j.result c.record_length.result =
-        let inv = c.loop-at.invariant in
-        let pre = c.requires in
-        law.here inv.0 inv.1 pre.1 pre.2 c.is_short.ensures c.if-is_short.false c.if-deep-eq0.false
-        c.record_length.ensures c.record_kind-j.ensures in
+    let a = c.args in
+    let l = c.loop-at in
+    let s = scope a.op a.card.now a.root.now a.chain.now in
+    Here a.op s (parts_added s a.left a.k (table a.n a.work.now) a.from a.to)
+    (growth_all a.op a.left false a.again a.w (between a.card.now a.from a.to)) a.to a.left
+    (table l.m l.work) l.at l.of l.i l.deep l.sum a.again l.wraps
+    c.record_kind-j.result c.record_length.result =
+    let inv = c.loop-at.invariant in
+    let pre = c.requires in
+    law.here inv.0 inv.1 pre.1 pre.2 c.is_short.ensures c.if-is_short.false c.if-deep-eq0.false
+    c.record_length.ensures c.record_kind-j.ensures in
     (law.kept_goes h c.if-j-eq3.true, law.kept-grows h c.if-j-eq1.false c.if-j-eq3.true, omega (arith, c.loop-at.invariant.2))
 
 pub survey_parts-overflow_add-sum : goal.survey_parts-overflow_add-sum
 survey_parts-overflow_add-sum t c =
     let h :
-        let a = c.args in
-        let l = c.loop-at in
-        let s = scope a.op a.card.now a.root.now a.chain.now in
-        Here a.op s (parts_added s a.left a.k (table a.n a.work.now) a.from a.to)
-        (growth_all a.op a.left false a.again a.w (between a.card.now a.from a.to)) a.to a.left
-        (table l.m l.work) l.at l.of l.i l.deep l.sum a.again l.wraps
-        c.record_kind-j.result c.record_length.result =
-        let inv = c.loop-at.invariant in
-        let pre = c.requires in
-        law.here inv.0 inv.1 pre.1 pre.2 c.is_short.ensures c.if-is_short.false c.if-deep-eq0.false
-        c.record_length.ensures c.record_kind-j.ensures in
+    let a = c.args in
+    let l = c.loop-at in
+    let s = scope a.op a.card.now a.root.now a.chain.now in
+    Here a.op s (parts_added s a.left a.k (table a.n a.work.now) a.from a.to)
+    (growth_all a.op a.left false a.again a.w (between a.card.now a.from a.to)) a.to a.left
+    (table l.m l.work) l.at l.of l.i l.deep l.sum a.again l.wraps
+    c.record_kind-j.result c.record_length.result =
+    let inv = c.loop-at.invariant in
+    let pre = c.requires in
+    law.here inv.0 inv.1 pre.1 pre.2 c.is_short.ensures c.if-is_short.false c.if-deep-eq0.false
+    c.record_length.ensures c.record_kind-j.ensures in
     let n = law.part-grows h _ c.part_growth-sum.ensures in
     omega (arith, turn-fits n)
 
 pub survey_parts-overflow_add-i-then-not-is_entered : goal.survey_parts-overflow_add-i-then-not-is_entered
 survey_parts-overflow_add-i-then-not-is_entered t c =
     let h :
-        let a = c.args in
-        let l = c.loop-at in
-        let s = scope a.op a.card.now a.root.now a.chain.now in
-        Here a.op s (parts_added s a.left a.k (table a.n a.work.now) a.from a.to)
-        (growth_all a.op a.left false a.again a.w (between a.card.now a.from a.to)) a.to a.left
-        (table l.m l.work) l.at l.of l.i l.deep l.sum a.again l.wraps
-        c.record_kind-j.result c.record_length.result =
-        let inv = c.loop-at.invariant in
-        let pre = c.requires in
-        law.here inv.0 inv.1 pre.1 pre.2 c.is_short.ensures c.if-is_short.false c.if-deep-eq0.false
-        c.record_length.ensures c.record_kind-j.ensures in
+    let a = c.args in
+    let l = c.loop-at in
+    let s = scope a.op a.card.now a.root.now a.chain.now in
+    Here a.op s (parts_added s a.left a.k (table a.n a.work.now) a.from a.to)
+    (growth_all a.op a.left false a.again a.w (between a.card.now a.from a.to)) a.to a.left
+    (table l.m l.work) l.at l.of l.i l.deep l.sum a.again l.wraps
+    c.record_kind-j.result c.record_length.result =
+    let inv = c.loop-at.invariant in
+    let pre = c.requires in
+    law.here inv.0 inv.1 pre.1 pre.2 c.is_short.ensures c.if-is_short.false c.if-deep-eq0.false
+    c.record_length.ensures c.record_kind-j.ensures in
     omega (arith, h.going.counted, h.going.ordered, c.requires.1, c.requires.2)
 
 pub survey_parts-loop-at-smaller-then-not-is_entered : goal.survey_parts-loop-at-smaller-then-not-is_entered
 survey_parts-loop-at-smaller-then-not-is_entered t c =
     let h :
-        let a = c.args in
-        let l = c.loop-at in
-        let s = scope a.op a.card.now a.root.now a.chain.now in
-        Here a.op s (parts_added s a.left a.k (table a.n a.work.now) a.from a.to)
-        (growth_all a.op a.left false a.again a.w (between a.card.now a.from a.to)) a.to a.left
-        (table l.m l.work) l.at l.of l.i l.deep l.sum a.again l.wraps
-        c.record_kind-j.result c.record_length.result =
-        let inv = c.loop-at.invariant in
-        let pre = c.requires in
-        law.here inv.0 inv.1 pre.1 pre.2 c.is_short.ensures c.if-is_short.false c.if-deep-eq0.false
-        c.record_length.ensures c.record_kind-j.ensures in
+    let a = c.args in
+    let l = c.loop-at in
+    let s = scope a.op a.card.now a.root.now a.chain.now in
+    Here a.op s (parts_added s a.left a.k (table a.n a.work.now) a.from a.to)
+    (growth_all a.op a.left false a.again a.w (between a.card.now a.from a.to)) a.to a.left
+    (table l.m l.work) l.at l.of l.i l.deep l.sum a.again l.wraps
+    c.record_kind-j.result c.record_length.result =
+    let inv = c.loop-at.invariant in
+    let pre = c.requires in
+    law.here inv.0 inv.1 pre.1 pre.2 c.is_short.ensures c.if-is_short.false c.if-deep-eq0.false
+    c.record_length.ensures c.record_kind-j.ensures in
     omega (arith, h.head.after-head, h.head.inside)
 
 pub survey_parts-loop-at-preserved-then-not-is_entered : goal.survey_parts-loop-at-preserved-then-not-is_entered
 survey_parts-loop-at-preserved-then-not-is_entered t c =
     let h :
-        let a = c.args in
-        let l = c.loop-at in
-        let s = scope a.op a.card.now a.root.now a.chain.now in
-        Here a.op s (parts_added s a.left a.k (table a.n a.work.now) a.from a.to)
-        (growth_all a.op a.left false a.again a.w (between a.card.now a.from a.to)) a.to a.left
-        (table l.m l.work) l.at l.of l.i l.deep l.sum a.again l.wraps
-        c.record_kind-j.result c.record_length.result =
-        let inv = c.loop-at.invariant in
-        let pre = c.requires in
-        law.here inv.0 inv.1 pre.1 pre.2 c.is_short.ensures c.if-is_short.false c.if-deep-eq0.false
-        c.record_length.ensures c.record_kind-j.ensures in (
+    let a = c.args in
+    let l = c.loop-at in
+    let s = scope a.op a.card.now a.root.now a.chain.now in
+    Here a.op s (parts_added s a.left a.k (table a.n a.work.now) a.from a.to)
+    (growth_all a.op a.left false a.again a.w (between a.card.now a.from a.to)) a.to a.left
+    (table l.m l.work) l.at l.of l.i l.deep l.sum a.again l.wraps
+    c.record_kind-j.result c.record_length.result =
+    let inv = c.loop-at.invariant in
+    let pre = c.requires in
+    law.here inv.0 inv.1 pre.1 pre.2 c.is_short.ensures c.if-is_short.false c.if-deep-eq0.false
+    c.record_length.ensures c.record_kind-j.ensures in (
       law.field-goes h c.if-j-eq1.false c.if-j-eq3.false c.is_entered.ensures
           (ap not c.if-not-is_entered.true),
       law.part-grows h _ c.part_growth-sum.ensures,
@@ -312,146 +312,146 @@ survey_parts-loop-at-preserved-then-not-is_entered t c =
 pub survey_parts-overflow_add-inner : goal.survey_parts-overflow_add-inner
 survey_parts-overflow_add-inner t c =
     let h :
-        let a = c.args in
-        let l = c.loop-at in
-        let s = scope a.op a.card.now a.root.now a.chain.now in
-        Here a.op s (parts_added s a.left a.k (table a.n a.work.now) a.from a.to)
-        (growth_all a.op a.left false a.again a.w (between a.card.now a.from a.to)) a.to a.left
-        (table l.m l.work) l.at l.of l.i l.deep l.sum a.again l.wraps
-        c.record_kind-j.result c.record_length.result =
-        let inv = c.loop-at.invariant in
-        let pre = c.requires in
-        law.here inv.0 inv.1 pre.1 pre.2 c.is_short.ensures c.if-is_short.false c.if-deep-eq0.false
-        c.record_length.ensures c.record_kind-j.ensures in
+    let a = c.args in
+    let l = c.loop-at in
+    let s = scope a.op a.card.now a.root.now a.chain.now in
+    Here a.op s (parts_added s a.left a.k (table a.n a.work.now) a.from a.to)
+    (growth_all a.op a.left false a.again a.w (between a.card.now a.from a.to)) a.to a.left
+    (table l.m l.work) l.at l.of l.i l.deep l.sum a.again l.wraps
+    c.record_kind-j.result c.record_length.result =
+    let inv = c.loop-at.invariant in
+    let pre = c.requires in
+    law.here inv.0 inv.1 pre.1 pre.2 c.is_short.ensures c.if-is_short.false c.if-deep-eq0.false
+    c.record_length.ensures c.record_kind-j.ensures in
     omega (arith, h.head.after-head, h.head.inside, h.head.bound, c.requires.2)
 
 pub survey_parts-slice_bounds-name_in-count : goal.survey_parts-slice_bounds-name_in-count
 survey_parts-slice_bounds-name_in-count t c =
     let h :
-        let a = c.args in
-        let l = c.loop-at in
-        let s = scope a.op a.card.now a.root.now a.chain.now in
-        Here a.op s (parts_added s a.left a.k (table a.n a.work.now) a.from a.to)
-        (growth_all a.op a.left false a.again a.w (between a.card.now a.from a.to)) a.to a.left
-        (table l.m l.work) l.at l.of l.i l.deep l.sum a.again l.wraps
-        c.record_kind-j.result c.record_length.result =
-        let inv = c.loop-at.invariant in
-        let pre = c.requires in
-        law.here inv.0 inv.1 pre.1 pre.2 c.is_short.ensures c.if-is_short.false c.if-deep-eq0.false
-        c.record_length.ensures c.record_kind-j.ensures in
+    let a = c.args in
+    let l = c.loop-at in
+    let s = scope a.op a.card.now a.root.now a.chain.now in
+    Here a.op s (parts_added s a.left a.k (table a.n a.work.now) a.from a.to)
+    (growth_all a.op a.left false a.again a.w (between a.card.now a.from a.to)) a.to a.left
+    (table l.m l.work) l.at l.of l.i l.deep l.sum a.again l.wraps
+    c.record_kind-j.result c.record_length.result =
+    let inv = c.loop-at.invariant in
+    let pre = c.requires in
+    law.here inv.0 inv.1 pre.1 pre.2 c.is_short.ensures c.if-is_short.false c.if-deep-eq0.false
+    c.record_length.ensures c.record_kind-j.ensures in
     omega (arith, h.head.after-head)
 
 pub survey_parts-slice_bounds-name_in-start : goal.survey_parts-slice_bounds-name_in-start
 survey_parts-slice_bounds-name_in-start t c =
     let h :
-        let a = c.args in
-        let l = c.loop-at in
-        let s = scope a.op a.card.now a.root.now a.chain.now in
-        Here a.op s (parts_added s a.left a.k (table a.n a.work.now) a.from a.to)
-        (growth_all a.op a.left false a.again a.w (between a.card.now a.from a.to)) a.to a.left
-        (table l.m l.work) l.at l.of l.i l.deep l.sum a.again l.wraps
-        c.record_kind-j.result c.record_length.result =
-        let inv = c.loop-at.invariant in
-        let pre = c.requires in
-        law.here inv.0 inv.1 pre.1 pre.2 c.is_short.ensures c.if-is_short.false c.if-deep-eq0.false
-        c.record_length.ensures c.record_kind-j.ensures in
+    let a = c.args in
+    let l = c.loop-at in
+    let s = scope a.op a.card.now a.root.now a.chain.now in
+    Here a.op s (parts_added s a.left a.k (table a.n a.work.now) a.from a.to)
+    (growth_all a.op a.left false a.again a.w (between a.card.now a.from a.to)) a.to a.left
+    (table l.m l.work) l.at l.of l.i l.deep l.sum a.again l.wraps
+    c.record_kind-j.result c.record_length.result =
+    let inv = c.loop-at.invariant in
+    let pre = c.requires in
+    law.here inv.0 inv.1 pre.1 pre.2 c.is_short.ensures c.if-is_short.false c.if-deep-eq0.false
+    c.record_length.ensures c.record_kind-j.ensures in
     omega (arith, h.head.after-head)
 
 pub survey_parts-slice_bounds-name_in-end : goal.survey_parts-slice_bounds-name_in-end
 survey_parts-slice_bounds-name_in-end t c =
     let h :
-        let a = c.args in
-        let l = c.loop-at in
-        let s = scope a.op a.card.now a.root.now a.chain.now in
-        Here a.op s (parts_added s a.left a.k (table a.n a.work.now) a.from a.to)
-        (growth_all a.op a.left false a.again a.w (between a.card.now a.from a.to)) a.to a.left
-        (table l.m l.work) l.at l.of l.i l.deep l.sum a.again l.wraps
-        c.record_kind-j.result c.record_length.result =
-        let inv = c.loop-at.invariant in
-        let pre = c.requires in
-        law.here inv.0 inv.1 pre.1 pre.2 c.is_short.ensures c.if-is_short.false c.if-deep-eq0.false
-        c.record_length.ensures c.record_kind-j.ensures in
+    let a = c.args in
+    let l = c.loop-at in
+    let s = scope a.op a.card.now a.root.now a.chain.now in
+    Here a.op s (parts_added s a.left a.k (table a.n a.work.now) a.from a.to)
+    (growth_all a.op a.left false a.again a.w (between a.card.now a.from a.to)) a.to a.left
+    (table l.m l.work) l.at l.of l.i l.deep l.sum a.again l.wraps
+    c.record_kind-j.result c.record_length.result =
+    let inv = c.loop-at.invariant in
+    let pre = c.requires in
+    law.here inv.0 inv.1 pre.1 pre.2 c.is_short.ensures c.if-is_short.false c.if-deep-eq0.false
+    c.record_length.ensures c.record_kind-j.ensures in
     omega (arith, h.head.inside, h.head.bound)
 
 pub survey_parts-overflow_mul-sum : goal.survey_parts-overflow_mul-sum
 survey_parts-overflow_mul-sum t c =
     let h :
-        let a = c.args in
-        let l = c.loop-at in
-        let s = scope a.op a.card.now a.root.now a.chain.now in
-        Here a.op s (parts_added s a.left a.k (table a.n a.work.now) a.from a.to)
-        (growth_all a.op a.left false a.again a.w (between a.card.now a.from a.to)) a.to a.left
-        (table l.m l.work) l.at l.of l.i l.deep l.sum a.again l.wraps
-        c.record_kind-j.result c.record_length.result =
-        let inv = c.loop-at.invariant in
-        let pre = c.requires in
-        law.here inv.0 inv.1 pre.1 pre.2 c.is_short.ensures c.if-is_short.false c.if-deep-eq0.false
-        c.record_length.ensures c.record_kind-j.ensures in
+    let a = c.args in
+    let l = c.loop-at in
+    let s = scope a.op a.card.now a.root.now a.chain.now in
+    Here a.op s (parts_added s a.left a.k (table a.n a.work.now) a.from a.to)
+    (growth_all a.op a.left false a.again a.w (between a.card.now a.from a.to)) a.to a.left
+    (table l.m l.work) l.at l.of l.i l.deep l.sum a.again l.wraps
+    c.record_kind-j.result c.record_length.result =
+    let inv = c.loop-at.invariant in
+    let pre = c.requires in
+    law.here inv.0 inv.1 pre.1 pre.2 c.is_short.ensures c.if-is_short.false c.if-deep-eq0.false
+    c.record_length.ensures c.record_kind-j.ensures in
     omega (arith, law.type-small h _ c.name_in.ensures)
 
 pub survey_parts-overflow_add-sum-then-j-eq45-2 : goal.survey_parts-overflow_add-sum-then-j-eq45-2
 survey_parts-overflow_add-sum-then-j-eq45-2 t c =
     let h :
-        let a = c.args in
-        let l = c.loop-at in
-        let s = scope a.op a.card.now a.root.now a.chain.now in
-        Here a.op s (parts_added s a.left a.k (table a.n a.work.now) a.from a.to)
-        (growth_all a.op a.left false a.again a.w (between a.card.now a.from a.to)) a.to a.left
-        (table l.m l.work) l.at l.of l.i l.deep l.sum a.again l.wraps
-        c.record_kind-j.result c.record_length.result =
-        let inv = c.loop-at.invariant in
-        let pre = c.requires in
-        law.here inv.0 inv.1 pre.1 pre.2 c.is_short.ensures c.if-is_short.false c.if-deep-eq0.false
-        c.record_length.ensures c.record_kind-j.ensures in
+    let a = c.args in
+    let l = c.loop-at in
+    let s = scope a.op a.card.now a.root.now a.chain.now in
+    Here a.op s (parts_added s a.left a.k (table a.n a.work.now) a.from a.to)
+    (growth_all a.op a.left false a.again a.w (between a.card.now a.from a.to)) a.to a.left
+    (table l.m l.work) l.at l.of l.i l.deep l.sum a.again l.wraps
+    c.record_kind-j.result c.record_length.result =
+    let inv = c.loop-at.invariant in
+    let pre = c.requires in
+    law.here inv.0 inv.1 pre.1 pre.2 c.is_short.ensures c.if-is_short.false c.if-deep-eq0.false
+    c.record_length.ensures c.record_kind-j.ensures in
     let n = law.type-grows h c.if-j-eq45.true _ c.name_in.ensures in
     omega (arith, turn-fits n)
 
 pub survey_parts-overflow_add-i-then-j-eq45 : goal.survey_parts-overflow_add-i-then-j-eq45
 survey_parts-overflow_add-i-then-j-eq45 t c =
     let h :
-        let a = c.args in
-        let l = c.loop-at in
-        let s = scope a.op a.card.now a.root.now a.chain.now in
-        Here a.op s (parts_added s a.left a.k (table a.n a.work.now) a.from a.to)
-        (growth_all a.op a.left false a.again a.w (between a.card.now a.from a.to)) a.to a.left
-        (table l.m l.work) l.at l.of l.i l.deep l.sum a.again l.wraps
-        c.record_kind-j.result c.record_length.result =
-        let inv = c.loop-at.invariant in
-        let pre = c.requires in
-        law.here inv.0 inv.1 pre.1 pre.2 c.is_short.ensures c.if-is_short.false c.if-deep-eq0.false
-        c.record_length.ensures c.record_kind-j.ensures in
+    let a = c.args in
+    let l = c.loop-at in
+    let s = scope a.op a.card.now a.root.now a.chain.now in
+    Here a.op s (parts_added s a.left a.k (table a.n a.work.now) a.from a.to)
+    (growth_all a.op a.left false a.again a.w (between a.card.now a.from a.to)) a.to a.left
+    (table l.m l.work) l.at l.of l.i l.deep l.sum a.again l.wraps
+    c.record_kind-j.result c.record_length.result =
+    let inv = c.loop-at.invariant in
+    let pre = c.requires in
+    law.here inv.0 inv.1 pre.1 pre.2 c.is_short.ensures c.if-is_short.false c.if-deep-eq0.false
+    c.record_length.ensures c.record_kind-j.ensures in
     omega (arith, h.going.counted, h.going.ordered, c.requires.1, c.requires.2)
 
 pub survey_parts-loop-at-smaller-then-j-eq45 : goal.survey_parts-loop-at-smaller-then-j-eq45
 survey_parts-loop-at-smaller-then-j-eq45 t c =
     let h :
-        let a = c.args in
-        let l = c.loop-at in
-        let s = scope a.op a.card.now a.root.now a.chain.now in
-        Here a.op s (parts_added s a.left a.k (table a.n a.work.now) a.from a.to)
-        (growth_all a.op a.left false a.again a.w (between a.card.now a.from a.to)) a.to a.left
-        (table l.m l.work) l.at l.of l.i l.deep l.sum a.again l.wraps
-        c.record_kind-j.result c.record_length.result =
-        let inv = c.loop-at.invariant in
-        let pre = c.requires in
-        law.here inv.0 inv.1 pre.1 pre.2 c.is_short.ensures c.if-is_short.false c.if-deep-eq0.false
-        c.record_length.ensures c.record_kind-j.ensures in
+    let a = c.args in
+    let l = c.loop-at in
+    let s = scope a.op a.card.now a.root.now a.chain.now in
+    Here a.op s (parts_added s a.left a.k (table a.n a.work.now) a.from a.to)
+    (growth_all a.op a.left false a.again a.w (between a.card.now a.from a.to)) a.to a.left
+    (table l.m l.work) l.at l.of l.i l.deep l.sum a.again l.wraps
+    c.record_kind-j.result c.record_length.result =
+    let inv = c.loop-at.invariant in
+    let pre = c.requires in
+    law.here inv.0 inv.1 pre.1 pre.2 c.is_short.ensures c.if-is_short.false c.if-deep-eq0.false
+    c.record_length.ensures c.record_kind-j.ensures in
     omega (arith, h.head.after-head, h.head.inside)
 
 pub survey_parts-loop-at-preserved-then-j-eq45 : goal.survey_parts-loop-at-preserved-then-j-eq45
 survey_parts-loop-at-preserved-then-j-eq45 t c =
     let h :
-        let a = c.args in
-        let l = c.loop-at in
-        let s = scope a.op a.card.now a.root.now a.chain.now in
-        Here a.op s (parts_added s a.left a.k (table a.n a.work.now) a.from a.to)
-        (growth_all a.op a.left false a.again a.w (between a.card.now a.from a.to)) a.to a.left
-        (table l.m l.work) l.at l.of l.i l.deep l.sum a.again l.wraps
-        c.record_kind-j.result c.record_length.result =
-        let inv = c.loop-at.invariant in
-        let pre = c.requires in
-        law.here inv.0 inv.1 pre.1 pre.2 c.is_short.ensures c.if-is_short.false c.if-deep-eq0.false
-        c.record_length.ensures c.record_kind-j.ensures in (
+    let a = c.args in
+    let l = c.loop-at in
+    let s = scope a.op a.card.now a.root.now a.chain.now in
+    Here a.op s (parts_added s a.left a.k (table a.n a.work.now) a.from a.to)
+    (growth_all a.op a.left false a.again a.w (between a.card.now a.from a.to)) a.to a.left
+    (table l.m l.work) l.at l.of l.i l.deep l.sum a.again l.wraps
+    c.record_kind-j.result c.record_length.result =
+    let inv = c.loop-at.invariant in
+    let pre = c.requires in
+    law.here inv.0 inv.1 pre.1 pre.2 c.is_short.ensures c.if-is_short.false c.if-deep-eq0.false
+    c.record_length.ensures c.record_kind-j.ensures in (
       law.type-goes h c.if-j-eq1.false c.if-j-eq3.false c.is_entered.ensures
           (ap not c.if-not-is_entered.false) c.if-j-eq45.true
           c.add_path-m.ensures,
@@ -462,49 +462,49 @@ survey_parts-loop-at-preserved-then-j-eq45 t c =
 pub survey_parts-overflow_add-i-then-j-eq92 : goal.survey_parts-overflow_add-i-then-j-eq92
 survey_parts-overflow_add-i-then-j-eq92 t c =
     let h :
-        let a = c.args in
-        let l = c.loop-at in
-        let s = scope a.op a.card.now a.root.now a.chain.now in
-        Here a.op s (parts_added s a.left a.k (table a.n a.work.now) a.from a.to)
-        (growth_all a.op a.left false a.again a.w (between a.card.now a.from a.to)) a.to a.left
-        (table l.m l.work) l.at l.of l.i l.deep l.sum a.again l.wraps
-        c.record_kind-j.result c.record_length.result =
-        let inv = c.loop-at.invariant in
-        let pre = c.requires in
-        law.here inv.0 inv.1 pre.1 pre.2 c.is_short.ensures c.if-is_short.false c.if-deep-eq0.false
-        c.record_length.ensures c.record_kind-j.ensures in
+    let a = c.args in
+    let l = c.loop-at in
+    let s = scope a.op a.card.now a.root.now a.chain.now in
+    Here a.op s (parts_added s a.left a.k (table a.n a.work.now) a.from a.to)
+    (growth_all a.op a.left false a.again a.w (between a.card.now a.from a.to)) a.to a.left
+    (table l.m l.work) l.at l.of l.i l.deep l.sum a.again l.wraps
+    c.record_kind-j.result c.record_length.result =
+    let inv = c.loop-at.invariant in
+    let pre = c.requires in
+    law.here inv.0 inv.1 pre.1 pre.2 c.is_short.ensures c.if-is_short.false c.if-deep-eq0.false
+    c.record_length.ensures c.record_kind-j.ensures in
     omega (arith, h.going.counted, h.going.ordered, c.requires.1, c.requires.2)
 
 pub survey_parts-loop-at-smaller-then-j-eq92 : goal.survey_parts-loop-at-smaller-then-j-eq92
 survey_parts-loop-at-smaller-then-j-eq92 t c =
     let h :
-        let a = c.args in
-        let l = c.loop-at in
-        let s = scope a.op a.card.now a.root.now a.chain.now in
-        Here a.op s (parts_added s a.left a.k (table a.n a.work.now) a.from a.to)
-        (growth_all a.op a.left false a.again a.w (between a.card.now a.from a.to)) a.to a.left
-        (table l.m l.work) l.at l.of l.i l.deep l.sum a.again l.wraps
-        c.record_kind-j.result c.record_length.result =
-        let inv = c.loop-at.invariant in
-        let pre = c.requires in
-        law.here inv.0 inv.1 pre.1 pre.2 c.is_short.ensures c.if-is_short.false c.if-deep-eq0.false
-        c.record_length.ensures c.record_kind-j.ensures in
+    let a = c.args in
+    let l = c.loop-at in
+    let s = scope a.op a.card.now a.root.now a.chain.now in
+    Here a.op s (parts_added s a.left a.k (table a.n a.work.now) a.from a.to)
+    (growth_all a.op a.left false a.again a.w (between a.card.now a.from a.to)) a.to a.left
+    (table l.m l.work) l.at l.of l.i l.deep l.sum a.again l.wraps
+    c.record_kind-j.result c.record_length.result =
+    let inv = c.loop-at.invariant in
+    let pre = c.requires in
+    law.here inv.0 inv.1 pre.1 pre.2 c.is_short.ensures c.if-is_short.false c.if-deep-eq0.false
+    c.record_length.ensures c.record_kind-j.ensures in
     omega (arith, h.head.after-head, h.head.inside)
 
 pub survey_parts-loop-at-preserved-then-j-eq92 : goal.survey_parts-loop-at-preserved-then-j-eq92
 survey_parts-loop-at-preserved-then-j-eq92 t c =
     let h :
-        let a = c.args in
-        let l = c.loop-at in
-        let s = scope a.op a.card.now a.root.now a.chain.now in
-        Here a.op s (parts_added s a.left a.k (table a.n a.work.now) a.from a.to)
-        (growth_all a.op a.left false a.again a.w (between a.card.now a.from a.to)) a.to a.left
-        (table l.m l.work) l.at l.of l.i l.deep l.sum a.again l.wraps
-        c.record_kind-j.result c.record_length.result =
-        let inv = c.loop-at.invariant in
-        let pre = c.requires in
-        law.here inv.0 inv.1 pre.1 pre.2 c.is_short.ensures c.if-is_short.false c.if-deep-eq0.false
-        c.record_length.ensures c.record_kind-j.ensures in (
+    let a = c.args in
+    let l = c.loop-at in
+    let s = scope a.op a.card.now a.root.now a.chain.now in
+    Here a.op s (parts_added s a.left a.k (table a.n a.work.now) a.from a.to)
+    (growth_all a.op a.left false a.again a.w (between a.card.now a.from a.to)) a.to a.left
+    (table l.m l.work) l.at l.of l.i l.deep l.sum a.again l.wraps
+    c.record_kind-j.result c.record_length.result =
+    let inv = c.loop-at.invariant in
+    let pre = c.requires in
+    law.here inv.0 inv.1 pre.1 pre.2 c.is_short.ensures c.if-is_short.false c.if-deep-eq0.false
+    c.record_length.ensures c.record_kind-j.ensures in (
       law.expr-goes h c.if-j-eq1.false c.if-j-eq3.false c.is_entered.ensures
           (ap not c.if-not-is_entered.false) c.if-j-eq92.true c.add_path-m-then-j-eq92.ensures,
       law.expr-grows h c.if-j-eq45.false c.if-j-eq92.true,
@@ -514,33 +514,33 @@ survey_parts-loop-at-preserved-then-j-eq92 t c =
 pub survey_parts-overflow_sub-deep : goal.survey_parts-overflow_sub-deep
 survey_parts-overflow_sub-deep t c =
     let h :
-        let a = c.args in
-        let l = c.loop-at in
-        let s = scope a.op a.card.now a.root.now a.chain.now in
-        Here a.op s (parts_added s a.left a.k (table a.n a.work.now) a.from a.to)
-        (growth_all a.op a.left false a.again a.w (between a.card.now a.from a.to)) a.to a.left
-        (table l.m l.work) l.at l.of l.i l.deep l.sum a.again l.wraps
-        c.record_kind-j.result c.record_length.result =
-        let inv = c.loop-at.invariant in
-        let pre = c.requires in
-        law.here inv.0 inv.1 pre.1 pre.2 c.is_short.ensures c.if-is_short.false c.if-deep-eq0.false
-        c.record_length.ensures c.record_kind-j.ensures in
+    let a = c.args in
+    let l = c.loop-at in
+    let s = scope a.op a.card.now a.root.now a.chain.now in
+    Here a.op s (parts_added s a.left a.k (table a.n a.work.now) a.from a.to)
+    (growth_all a.op a.left false a.again a.w (between a.card.now a.from a.to)) a.to a.left
+    (table l.m l.work) l.at l.of l.i l.deep l.sum a.again l.wraps
+    c.record_kind-j.result c.record_length.result =
+    let inv = c.loop-at.invariant in
+    let pre = c.requires in
+    law.here inv.0 inv.1 pre.1 pre.2 c.is_short.ensures c.if-is_short.false c.if-deep-eq0.false
+    c.record_length.ensures c.record_kind-j.ensures in
     at_least_one _ h.some
 
 pub survey_parts-survey_decl-d-requires : goal.survey_parts-survey_decl-d-requires
 survey_parts-survey_decl-d-requires t c =
     let h :
-        let a = c.args in
-        let l = c.loop-at in
-        let s = scope a.op a.card.now a.root.now a.chain.now in
-        Here a.op s (parts_added s a.left a.k (table a.n a.work.now) a.from a.to)
-        (growth_all a.op a.left false a.again a.w (between a.card.now a.from a.to)) a.to a.left
-        (table l.m l.work) l.at l.of l.i l.deep l.sum a.again l.wraps
-        c.record_kind-j.result c.record_length.result =
-        let inv = c.loop-at.invariant in
-        let pre = c.requires in
-        law.here inv.0 inv.1 pre.1 pre.2 c.is_short.ensures c.if-is_short.false c.if-deep-eq0.false
-        c.record_length.ensures c.record_kind-j.ensures in
+    let a = c.args in
+    let l = c.loop-at in
+    let s = scope a.op a.card.now a.root.now a.chain.now in
+    Here a.op s (parts_added s a.left a.k (table a.n a.work.now) a.from a.to)
+    (growth_all a.op a.left false a.again a.w (between a.card.now a.from a.to)) a.to a.left
+    (table l.m l.work) l.at l.of l.i l.deep l.sum a.again l.wraps
+    c.record_kind-j.result c.record_length.result =
+    let inv = c.loop-at.invariant in
+    let pre = c.requires in
+    law.here inv.0 inv.1 pre.1 pre.2 c.is_short.ensures c.if-is_short.false c.if-deep-eq0.false
+    c.record_length.ensures c.record_kind-j.ensures in
     let l = less-deep _ c.loop-at.deep c.args.left c.decreases h.going.under h.some in (
       l,
       (
@@ -555,17 +555,17 @@ survey_parts-survey_decl-d-requires t c =
 pub survey_parts-overflow_add-sum-then-stands : goal.survey_parts-overflow_add-sum-then-stands
 survey_parts-overflow_add-sum-then-stands t c =
     let h :
-        let a = c.args in
-        let l = c.loop-at in
-        let s = scope a.op a.card.now a.root.now a.chain.now in
-        Here a.op s (parts_added s a.left a.k (table a.n a.work.now) a.from a.to)
-        (growth_all a.op a.left false a.again a.w (between a.card.now a.from a.to)) a.to a.left
-        (table l.m l.work) l.at l.of l.i l.deep l.sum a.again l.wraps
-        c.record_kind-j.result c.record_length.result =
-        let inv = c.loop-at.invariant in
-        let pre = c.requires in
-        law.here inv.0 inv.1 pre.1 pre.2 c.is_short.ensures c.if-is_short.false c.if-deep-eq0.false
-        c.record_length.ensures c.record_kind-j.ensures in
+    let a = c.args in
+    let l = c.loop-at in
+    let s = scope a.op a.card.now a.root.now a.chain.now in
+    Here a.op s (parts_added s a.left a.k (table a.n a.work.now) a.from a.to)
+    (growth_all a.op a.left false a.again a.w (between a.card.now a.from a.to)) a.to a.left
+    (table l.m l.work) l.at l.of l.i l.deep l.sum a.again l.wraps
+    c.record_kind-j.result c.record_length.result =
+    let inv = c.loop-at.invariant in
+    let pre = c.requires in
+    law.here inv.0 inv.1 pre.1 pre.2 c.is_short.ensures c.if-is_short.false c.if-deep-eq0.false
+    c.record_length.ensures c.record_kind-j.ensures in
     let n = law.decl-grows h c.stands.ensures
     c.if-stands.true _ c.survey_decl-d.ensures.1 in
     omega (arith, turn-fits n)
@@ -573,49 +573,49 @@ survey_parts-overflow_add-sum-then-stands t c =
 pub survey_parts-overflow_add-i-then-stands : goal.survey_parts-overflow_add-i-then-stands
 survey_parts-overflow_add-i-then-stands t c =
     let h :
-        let a = c.args in
-        let l = c.loop-at in
-        let s = scope a.op a.card.now a.root.now a.chain.now in
-        Here a.op s (parts_added s a.left a.k (table a.n a.work.now) a.from a.to)
-        (growth_all a.op a.left false a.again a.w (between a.card.now a.from a.to)) a.to a.left
-        (table l.m l.work) l.at l.of l.i l.deep l.sum a.again l.wraps
-        c.record_kind-j.result c.record_length.result =
-        let inv = c.loop-at.invariant in
-        let pre = c.requires in
-        law.here inv.0 inv.1 pre.1 pre.2 c.is_short.ensures c.if-is_short.false c.if-deep-eq0.false
-        c.record_length.ensures c.record_kind-j.ensures in
+    let a = c.args in
+    let l = c.loop-at in
+    let s = scope a.op a.card.now a.root.now a.chain.now in
+    Here a.op s (parts_added s a.left a.k (table a.n a.work.now) a.from a.to)
+    (growth_all a.op a.left false a.again a.w (between a.card.now a.from a.to)) a.to a.left
+    (table l.m l.work) l.at l.of l.i l.deep l.sum a.again l.wraps
+    c.record_kind-j.result c.record_length.result =
+    let inv = c.loop-at.invariant in
+    let pre = c.requires in
+    law.here inv.0 inv.1 pre.1 pre.2 c.is_short.ensures c.if-is_short.false c.if-deep-eq0.false
+    c.record_length.ensures c.record_kind-j.ensures in
     omega (arith, h.going.counted, h.going.ordered, c.requires.1, c.requires.2)
 
 pub survey_parts-loop-at-smaller-then-stands : goal.survey_parts-loop-at-smaller-then-stands
 survey_parts-loop-at-smaller-then-stands t c =
     let h :
-        let a = c.args in
-        let l = c.loop-at in
-        let s = scope a.op a.card.now a.root.now a.chain.now in
-        Here a.op s (parts_added s a.left a.k (table a.n a.work.now) a.from a.to)
-        (growth_all a.op a.left false a.again a.w (between a.card.now a.from a.to)) a.to a.left
-        (table l.m l.work) l.at l.of l.i l.deep l.sum a.again l.wraps
-        c.record_kind-j.result c.record_length.result =
-        let inv = c.loop-at.invariant in
-        let pre = c.requires in
-        law.here inv.0 inv.1 pre.1 pre.2 c.is_short.ensures c.if-is_short.false c.if-deep-eq0.false
-        c.record_length.ensures c.record_kind-j.ensures in
+    let a = c.args in
+    let l = c.loop-at in
+    let s = scope a.op a.card.now a.root.now a.chain.now in
+    Here a.op s (parts_added s a.left a.k (table a.n a.work.now) a.from a.to)
+    (growth_all a.op a.left false a.again a.w (between a.card.now a.from a.to)) a.to a.left
+    (table l.m l.work) l.at l.of l.i l.deep l.sum a.again l.wraps
+    c.record_kind-j.result c.record_length.result =
+    let inv = c.loop-at.invariant in
+    let pre = c.requires in
+    law.here inv.0 inv.1 pre.1 pre.2 c.is_short.ensures c.if-is_short.false c.if-deep-eq0.false
+    c.record_length.ensures c.record_kind-j.ensures in
     omega (arith, h.head.after-head, h.head.inside)
 
 pub survey_parts-loop-at-preserved-then-stands : goal.survey_parts-loop-at-preserved-then-stands
 survey_parts-loop-at-preserved-then-stands t c =
     let h :
-        let a = c.args in
-        let l = c.loop-at in
-        let s = scope a.op a.card.now a.root.now a.chain.now in
-        Here a.op s (parts_added s a.left a.k (table a.n a.work.now) a.from a.to)
-        (growth_all a.op a.left false a.again a.w (between a.card.now a.from a.to)) a.to a.left
-        (table l.m l.work) l.at l.of l.i l.deep l.sum a.again l.wraps
-        c.record_kind-j.result c.record_length.result =
-        let inv = c.loop-at.invariant in
-        let pre = c.requires in
-        law.here inv.0 inv.1 pre.1 pre.2 c.is_short.ensures c.if-is_short.false c.if-deep-eq0.false
-        c.record_length.ensures c.record_kind-j.ensures in (
+    let a = c.args in
+    let l = c.loop-at in
+    let s = scope a.op a.card.now a.root.now a.chain.now in
+    Here a.op s (parts_added s a.left a.k (table a.n a.work.now) a.from a.to)
+    (growth_all a.op a.left false a.again a.w (between a.card.now a.from a.to)) a.to a.left
+    (table l.m l.work) l.at l.of l.i l.deep l.sum a.again l.wraps
+    c.record_kind-j.result c.record_length.result =
+    let inv = c.loop-at.invariant in
+    let pre = c.requires in
+    law.here inv.0 inv.1 pre.1 pre.2 c.is_short.ensures c.if-is_short.false c.if-deep-eq0.false
+    c.record_length.ensures c.record_kind-j.ensures in (
       law.whole-goes h c.if-j-eq1.false c.if-j-eq3.false c.is_entered.ensures
           (ap not c.if-not-is_entered.false) c.survey_decl-d.ensures.0,
       law.decl-grows h c.stands.ensures c.if-stands.true _
@@ -626,81 +626,81 @@ survey_parts-loop-at-preserved-then-stands t c =
 pub survey_parts-slice_bounds-is_parted-count : goal.survey_parts-slice_bounds-is_parted-count
 survey_parts-slice_bounds-is_parted-count t c =
     let h :
-        let a = c.args in
-        let l = c.loop-at in
-        let s = scope a.op a.card.now a.root.now a.chain.now in
-        Here a.op s (parts_added s a.left a.k (table a.n a.work.now) a.from a.to)
-        (growth_all a.op a.left false a.again a.w (between a.card.now a.from a.to)) a.to a.left
-        (table l.m l.work) l.at l.of l.i l.deep l.sum a.again l.wraps
-        c.record_kind-j.result c.record_length.result =
-        let inv = c.loop-at.invariant in
-        let pre = c.requires in
-        law.here inv.0 inv.1 pre.1 pre.2 c.is_short.ensures c.if-is_short.false c.if-deep-eq0.false
-        c.record_length.ensures c.record_kind-j.ensures in
+    let a = c.args in
+    let l = c.loop-at in
+    let s = scope a.op a.card.now a.root.now a.chain.now in
+    Here a.op s (parts_added s a.left a.k (table a.n a.work.now) a.from a.to)
+    (growth_all a.op a.left false a.again a.w (between a.card.now a.from a.to)) a.to a.left
+    (table l.m l.work) l.at l.of l.i l.deep l.sum a.again l.wraps
+    c.record_kind-j.result c.record_length.result =
+    let inv = c.loop-at.invariant in
+    let pre = c.requires in
+    law.here inv.0 inv.1 pre.1 pre.2 c.is_short.ensures c.if-is_short.false c.if-deep-eq0.false
+    c.record_length.ensures c.record_kind-j.ensures in
     h.head.after-head
 
 pub survey_parts-slice_bounds-is_parted-start : goal.survey_parts-slice_bounds-is_parted-start
 survey_parts-slice_bounds-is_parted-start t c =
     let h :
-        let a = c.args in
-        let l = c.loop-at in
-        let s = scope a.op a.card.now a.root.now a.chain.now in
-        Here a.op s (parts_added s a.left a.k (table a.n a.work.now) a.from a.to)
-        (growth_all a.op a.left false a.again a.w (between a.card.now a.from a.to)) a.to a.left
-        (table l.m l.work) l.at l.of l.i l.deep l.sum a.again l.wraps
-        c.record_kind-j.result c.record_length.result =
-        let inv = c.loop-at.invariant in
-        let pre = c.requires in
-        law.here inv.0 inv.1 pre.1 pre.2 c.is_short.ensures c.if-is_short.false c.if-deep-eq0.false
-        c.record_length.ensures c.record_kind-j.ensures in
+    let a = c.args in
+    let l = c.loop-at in
+    let s = scope a.op a.card.now a.root.now a.chain.now in
+    Here a.op s (parts_added s a.left a.k (table a.n a.work.now) a.from a.to)
+    (growth_all a.op a.left false a.again a.w (between a.card.now a.from a.to)) a.to a.left
+    (table l.m l.work) l.at l.of l.i l.deep l.sum a.again l.wraps
+    c.record_kind-j.result c.record_length.result =
+    let inv = c.loop-at.invariant in
+    let pre = c.requires in
+    law.here inv.0 inv.1 pre.1 pre.2 c.is_short.ensures c.if-is_short.false c.if-deep-eq0.false
+    c.record_length.ensures c.record_kind-j.ensures in
     h.head.after-head
 
 pub survey_parts-slice_bounds-is_parted-end : goal.survey_parts-slice_bounds-is_parted-end
 survey_parts-slice_bounds-is_parted-end t c =
     let h :
-        let a = c.args in
-        let l = c.loop-at in
-        let s = scope a.op a.card.now a.root.now a.chain.now in
-        Here a.op s (parts_added s a.left a.k (table a.n a.work.now) a.from a.to)
-        (growth_all a.op a.left false a.again a.w (between a.card.now a.from a.to)) a.to a.left
-        (table l.m l.work) l.at l.of l.i l.deep l.sum a.again l.wraps
-        c.record_kind-j.result c.record_length.result =
-        let inv = c.loop-at.invariant in
-        let pre = c.requires in
-        law.here inv.0 inv.1 pre.1 pre.2 c.is_short.ensures c.if-is_short.false c.if-deep-eq0.false
-        c.record_length.ensures c.record_kind-j.ensures in
+    let a = c.args in
+    let l = c.loop-at in
+    let s = scope a.op a.card.now a.root.now a.chain.now in
+    Here a.op s (parts_added s a.left a.k (table a.n a.work.now) a.from a.to)
+    (growth_all a.op a.left false a.again a.w (between a.card.now a.from a.to)) a.to a.left
+    (table l.m l.work) l.at l.of l.i l.deep l.sum a.again l.wraps
+    c.record_kind-j.result c.record_length.result =
+    let inv = c.loop-at.invariant in
+    let pre = c.requires in
+    law.here inv.0 inv.1 pre.1 pre.2 c.is_short.ensures c.if-is_short.false c.if-deep-eq0.false
+    c.record_length.ensures c.record_kind-j.ensures in
     omega (arith, h.head.inside, h.head.bound)
 
 pub survey_parts-overflow_sub-deep-then-is_parted : goal.survey_parts-overflow_sub-deep-then-is_parted
 survey_parts-overflow_sub-deep-then-is_parted t c =
     let h :
-        let a = c.args in
-        let l = c.loop-at in
-        let s = scope a.op a.card.now a.root.now a.chain.now in
-        Here a.op s (parts_added s a.left a.k (table a.n a.work.now) a.from a.to)
-        (growth_all a.op a.left false a.again a.w (between a.card.now a.from a.to)) a.to a.left
-        (table l.m l.work) l.at l.of l.i l.deep l.sum a.again l.wraps
-        c.record_kind-j.result c.record_length.result =
-        let inv = c.loop-at.invariant in
-        let pre = c.requires in
-        law.here inv.0 inv.1 pre.1 pre.2 c.is_short.ensures c.if-is_short.false c.if-deep-eq0.false
-        c.record_length.ensures c.record_kind-j.ensures in
+    let a = c.args in
+    let l = c.loop-at in
+    let s = scope a.op a.card.now a.root.now a.chain.now in
+    Here a.op s (parts_added s a.left a.k (table a.n a.work.now) a.from a.to)
+    (growth_all a.op a.left false a.again a.w (between a.card.now a.from a.to)) a.to a.left
+    (table l.m l.work) l.at l.of l.i l.deep l.sum a.again l.wraps
+    c.record_kind-j.result c.record_length.result =
+    let inv = c.loop-at.invariant in
+    let pre = c.requires in
+    law.here inv.0 inv.1 pre.1 pre.2 c.is_short.ensures c.if-is_short.false c.if-deep-eq0.false
+    c.record_length.ensures c.record_kind-j.ensures in
     at_least_one _ h.some
 
 pub survey_parts-survey_fn-f-requires : goal.survey_parts-survey_fn-f-requires
 survey_parts-survey_fn-f-requires t c =
     let h :
-        let a = c.args in
-        let l = c.loop-at in
-        let s = scope a.op a.card.now a.root.now a.chain.now in
-        Here a.op s (parts_added s a.left a.k (table a.n a.work.now) a.from a.to)
-        (growth_all a.op a.left false a.again a.w (between a.card.now a.from a.to)) a.to a.left
-        (table l.m l.work) l.at l.of l.i l.deep l.sum a.again l.wraps
-        c.record_kind-j.result c.record_length.result =
-        let inv = c.loop-at.invariant in
-        let pre = c.requires in
-        law.here inv.0 inv.1 pre.1 pre.2 c.is_short.ensures c.if-is_short.false c.if-deep-eq0.false
-        c.record_length.ensures c.record_kind-j.ensures in
+    let a = c.args in
+    let l = c.loop-at in
+    let s = scope a.op a.card.now a.root.now a.chain.now in
+    Here a.op s (parts_added s a.left a.k (table a.n a.work.now) a.from a.to)
+    (growth_all a.op a.left false a.again a.w (between a.card.now a.from a.to)) a.to a.left
+    (table l.m l.work) l.at l.of l.i l.deep l.sum a.again l.wraps
+    c.record_kind-j.result c.record_length.result =
+    let inv = c.loop-at.invariant in
+    let pre = c.requires in
+    law.here inv.0 inv.1 pre.1 pre.2 c.is_short.ensures c.if-is_short.false c.if-deep-eq0.false
+    c.record_length.ensures c.record_kind-j.ensures in
     let l = less-deep _ c.loop-at.deep c.args.left c.decreases h.going.under h.some in (
       l,
       (
@@ -712,17 +712,17 @@ survey_parts-survey_fn-f-requires t c =
 pub survey_parts-overflow_add-sum-then-is_parted : goal.survey_parts-overflow_add-sum-then-is_parted
 survey_parts-overflow_add-sum-then-is_parted t c =
     let h :
-        let a = c.args in
-        let l = c.loop-at in
-        let s = scope a.op a.card.now a.root.now a.chain.now in
-        Here a.op s (parts_added s a.left a.k (table a.n a.work.now) a.from a.to)
-        (growth_all a.op a.left false a.again a.w (between a.card.now a.from a.to)) a.to a.left
-        (table l.m l.work) l.at l.of l.i l.deep l.sum a.again l.wraps
-        c.record_kind-j.result c.record_length.result =
-        let inv = c.loop-at.invariant in
-        let pre = c.requires in
-        law.here inv.0 inv.1 pre.1 pre.2 c.is_short.ensures c.if-is_short.false c.if-deep-eq0.false
-        c.record_length.ensures c.record_kind-j.ensures in
+    let a = c.args in
+    let l = c.loop-at in
+    let s = scope a.op a.card.now a.root.now a.chain.now in
+    Here a.op s (parts_added s a.left a.k (table a.n a.work.now) a.from a.to)
+    (growth_all a.op a.left false a.again a.w (between a.card.now a.from a.to)) a.to a.left
+    (table l.m l.work) l.at l.of l.i l.deep l.sum a.again l.wraps
+    c.record_kind-j.result c.record_length.result =
+    let inv = c.loop-at.invariant in
+    let pre = c.requires in
+    law.here inv.0 inv.1 pre.1 pre.2 c.is_short.ensures c.if-is_short.false c.if-deep-eq0.false
+    c.record_length.ensures c.record_kind-j.ensures in
     let n = law.fn-grows h c.if-j-eq45.false
     c.if-j-eq92.false
     c.if-j-eq125.true _ c.survey_fn-f.ensures.1 in
@@ -731,49 +731,49 @@ survey_parts-overflow_add-sum-then-is_parted t c =
 pub survey_parts-overflow_add-i-then-is_parted : goal.survey_parts-overflow_add-i-then-is_parted
 survey_parts-overflow_add-i-then-is_parted t c =
     let h :
-        let a = c.args in
-        let l = c.loop-at in
-        let s = scope a.op a.card.now a.root.now a.chain.now in
-        Here a.op s (parts_added s a.left a.k (table a.n a.work.now) a.from a.to)
-        (growth_all a.op a.left false a.again a.w (between a.card.now a.from a.to)) a.to a.left
-        (table l.m l.work) l.at l.of l.i l.deep l.sum a.again l.wraps
-        c.record_kind-j.result c.record_length.result =
-        let inv = c.loop-at.invariant in
-        let pre = c.requires in
-        law.here inv.0 inv.1 pre.1 pre.2 c.is_short.ensures c.if-is_short.false c.if-deep-eq0.false
-        c.record_length.ensures c.record_kind-j.ensures in
+    let a = c.args in
+    let l = c.loop-at in
+    let s = scope a.op a.card.now a.root.now a.chain.now in
+    Here a.op s (parts_added s a.left a.k (table a.n a.work.now) a.from a.to)
+    (growth_all a.op a.left false a.again a.w (between a.card.now a.from a.to)) a.to a.left
+    (table l.m l.work) l.at l.of l.i l.deep l.sum a.again l.wraps
+    c.record_kind-j.result c.record_length.result =
+    let inv = c.loop-at.invariant in
+    let pre = c.requires in
+    law.here inv.0 inv.1 pre.1 pre.2 c.is_short.ensures c.if-is_short.false c.if-deep-eq0.false
+    c.record_length.ensures c.record_kind-j.ensures in
     omega (arith, h.going.counted, h.going.ordered, c.requires.1, c.requires.2)
 
 pub survey_parts-loop-at-smaller-then-is_parted : goal.survey_parts-loop-at-smaller-then-is_parted
 survey_parts-loop-at-smaller-then-is_parted t c =
     let h :
-        let a = c.args in
-        let l = c.loop-at in
-        let s = scope a.op a.card.now a.root.now a.chain.now in
-        Here a.op s (parts_added s a.left a.k (table a.n a.work.now) a.from a.to)
-        (growth_all a.op a.left false a.again a.w (between a.card.now a.from a.to)) a.to a.left
-        (table l.m l.work) l.at l.of l.i l.deep l.sum a.again l.wraps
-        c.record_kind-j.result c.record_length.result =
-        let inv = c.loop-at.invariant in
-        let pre = c.requires in
-        law.here inv.0 inv.1 pre.1 pre.2 c.is_short.ensures c.if-is_short.false c.if-deep-eq0.false
-        c.record_length.ensures c.record_kind-j.ensures in
+    let a = c.args in
+    let l = c.loop-at in
+    let s = scope a.op a.card.now a.root.now a.chain.now in
+    Here a.op s (parts_added s a.left a.k (table a.n a.work.now) a.from a.to)
+    (growth_all a.op a.left false a.again a.w (between a.card.now a.from a.to)) a.to a.left
+    (table l.m l.work) l.at l.of l.i l.deep l.sum a.again l.wraps
+    c.record_kind-j.result c.record_length.result =
+    let inv = c.loop-at.invariant in
+    let pre = c.requires in
+    law.here inv.0 inv.1 pre.1 pre.2 c.is_short.ensures c.if-is_short.false c.if-deep-eq0.false
+    c.record_length.ensures c.record_kind-j.ensures in
     omega (arith, h.head.after-head, h.head.inside)
 
 pub survey_parts-loop-at-preserved-then-is_parted : goal.survey_parts-loop-at-preserved-then-is_parted
 survey_parts-loop-at-preserved-then-is_parted t c =
     let h :
-        let a = c.args in
-        let l = c.loop-at in
-        let s = scope a.op a.card.now a.root.now a.chain.now in
-        Here a.op s (parts_added s a.left a.k (table a.n a.work.now) a.from a.to)
-        (growth_all a.op a.left false a.again a.w (between a.card.now a.from a.to)) a.to a.left
-        (table l.m l.work) l.at l.of l.i l.deep l.sum a.again l.wraps
-        c.record_kind-j.result c.record_length.result =
-        let inv = c.loop-at.invariant in
-        let pre = c.requires in
-        law.here inv.0 inv.1 pre.1 pre.2 c.is_short.ensures c.if-is_short.false c.if-deep-eq0.false
-        c.record_length.ensures c.record_kind-j.ensures in (
+    let a = c.args in
+    let l = c.loop-at in
+    let s = scope a.op a.card.now a.root.now a.chain.now in
+    Here a.op s (parts_added s a.left a.k (table a.n a.work.now) a.from a.to)
+    (growth_all a.op a.left false a.again a.w (between a.card.now a.from a.to)) a.to a.left
+    (table l.m l.work) l.at l.of l.i l.deep l.sum a.again l.wraps
+    c.record_kind-j.result c.record_length.result =
+    let inv = c.loop-at.invariant in
+    let pre = c.requires in
+    law.here inv.0 inv.1 pre.1 pre.2 c.is_short.ensures c.if-is_short.false c.if-deep-eq0.false
+    c.record_length.ensures c.record_kind-j.ensures in (
       law.fn-goes h c.if-j-eq1.false c.if-j-eq3.false c.is_entered.ensures
           (ap not c.if-not-is_entered.false) c.if-j-eq45.false c.if-j-eq92.false c.stands.ensures
           c.if-stands.false c.if-j-eq125.true
@@ -786,33 +786,33 @@ survey_parts-loop-at-preserved-then-is_parted t c =
 pub survey_parts-overflow_sub-deep-then-j-eq125 : goal.survey_parts-overflow_sub-deep-then-j-eq125
 survey_parts-overflow_sub-deep-then-j-eq125 t c =
     let h :
-        let a = c.args in
-        let l = c.loop-at in
-        let s = scope a.op a.card.now a.root.now a.chain.now in
-        Here a.op s (parts_added s a.left a.k (table a.n a.work.now) a.from a.to)
-        (growth_all a.op a.left false a.again a.w (between a.card.now a.from a.to)) a.to a.left
-        (table l.m l.work) l.at l.of l.i l.deep l.sum a.again l.wraps
-        c.record_kind-j.result c.record_length.result =
-        let inv = c.loop-at.invariant in
-        let pre = c.requires in
-        law.here inv.0 inv.1 pre.1 pre.2 c.is_short.ensures c.if-is_short.false c.if-deep-eq0.false
-        c.record_length.ensures c.record_kind-j.ensures in
+    let a = c.args in
+    let l = c.loop-at in
+    let s = scope a.op a.card.now a.root.now a.chain.now in
+    Here a.op s (parts_added s a.left a.k (table a.n a.work.now) a.from a.to)
+    (growth_all a.op a.left false a.again a.w (between a.card.now a.from a.to)) a.to a.left
+    (table l.m l.work) l.at l.of l.i l.deep l.sum a.again l.wraps
+    c.record_kind-j.result c.record_length.result =
+    let inv = c.loop-at.invariant in
+    let pre = c.requires in
+    law.here inv.0 inv.1 pre.1 pre.2 c.is_short.ensures c.if-is_short.false c.if-deep-eq0.false
+    c.record_length.ensures c.record_kind-j.ensures in
     at_least_one _ h.some
 
 pub survey_parts-survey_parts-o-requires : goal.survey_parts-survey_parts-o-requires
 survey_parts-survey_parts-o-requires t c =
     let h :
-        let a = c.args in
-        let l = c.loop-at in
-        let s = scope a.op a.card.now a.root.now a.chain.now in
-        Here a.op s (parts_added s a.left a.k (table a.n a.work.now) a.from a.to)
-        (growth_all a.op a.left false a.again a.w (between a.card.now a.from a.to)) a.to a.left
-        (table l.m l.work) l.at l.of l.i l.deep l.sum a.again l.wraps
-        c.record_kind-j.result c.record_length.result =
-        let inv = c.loop-at.invariant in
-        let pre = c.requires in
-        law.here inv.0 inv.1 pre.1 pre.2 c.is_short.ensures c.if-is_short.false c.if-deep-eq0.false
-        c.record_length.ensures c.record_kind-j.ensures in
+    let a = c.args in
+    let l = c.loop-at in
+    let s = scope a.op a.card.now a.root.now a.chain.now in
+    Here a.op s (parts_added s a.left a.k (table a.n a.work.now) a.from a.to)
+    (growth_all a.op a.left false a.again a.w (between a.card.now a.from a.to)) a.to a.left
+    (table l.m l.work) l.at l.of l.i l.deep l.sum a.again l.wraps
+    c.record_kind-j.result c.record_length.result =
+    let inv = c.loop-at.invariant in
+    let pre = c.requires in
+    law.here inv.0 inv.1 pre.1 pre.2 c.is_short.ensures c.if-is_short.false c.if-deep-eq0.false
+    c.record_length.ensures c.record_kind-j.ensures in
     let l = less-deep _ c.loop-at.deep c.args.left c.decreases h.going.under h.some in (
       omega arith,
       (h.head.after-head, omega (arith, h.head.inside, h.head.bound), h.small, omega (arith, h.head.turn.fit)),
@@ -821,66 +821,66 @@ survey_parts-survey_parts-o-requires t c =
 pub survey_parts-overflow_add-sum-then-j-eq125 : goal.survey_parts-overflow_add-sum-then-j-eq125
 survey_parts-overflow_add-sum-then-j-eq125 t c =
     let h :
-        let a = c.args in
-        let l = c.loop-at in
-        let s = scope a.op a.card.now a.root.now a.chain.now in
-        Here a.op s (parts_added s a.left a.k (table a.n a.work.now) a.from a.to)
-        (growth_all a.op a.left false a.again a.w (between a.card.now a.from a.to)) a.to a.left
-        (table l.m l.work) l.at l.of l.i l.deep l.sum a.again l.wraps
-        c.record_kind-j.result c.record_length.result =
-        let inv = c.loop-at.invariant in
-        let pre = c.requires in
-        law.here inv.0 inv.1 pre.1 pre.2 c.is_short.ensures c.if-is_short.false c.if-deep-eq0.false
-        c.record_length.ensures c.record_kind-j.ensures in
+    let a = c.args in
+    let l = c.loop-at in
+    let s = scope a.op a.card.now a.root.now a.chain.now in
+    Here a.op s (parts_added s a.left a.k (table a.n a.work.now) a.from a.to)
+    (growth_all a.op a.left false a.again a.w (between a.card.now a.from a.to)) a.to a.left
+    (table l.m l.work) l.at l.of l.i l.deep l.sum a.again l.wraps
+    c.record_kind-j.result c.record_length.result =
+    let inv = c.loop-at.invariant in
+    let pre = c.requires in
+    law.here inv.0 inv.1 pre.1 pre.2 c.is_short.ensures c.if-is_short.false c.if-deep-eq0.false
+    c.record_length.ensures c.record_kind-j.ensures in
     let n = law.part-grows h _ c.part_growth-g.ensures in
     omega (arith, turn-fits n)
 
 pub survey_parts-overflow_add-i-then-j-eq125 : goal.survey_parts-overflow_add-i-then-j-eq125
 survey_parts-overflow_add-i-then-j-eq125 t c =
     let h :
-        let a = c.args in
-        let l = c.loop-at in
-        let s = scope a.op a.card.now a.root.now a.chain.now in
-        Here a.op s (parts_added s a.left a.k (table a.n a.work.now) a.from a.to)
-        (growth_all a.op a.left false a.again a.w (between a.card.now a.from a.to)) a.to a.left
-        (table l.m l.work) l.at l.of l.i l.deep l.sum a.again l.wraps
-        c.record_kind-j.result c.record_length.result =
-        let inv = c.loop-at.invariant in
-        let pre = c.requires in
-        law.here inv.0 inv.1 pre.1 pre.2 c.is_short.ensures c.if-is_short.false c.if-deep-eq0.false
-        c.record_length.ensures c.record_kind-j.ensures in
+    let a = c.args in
+    let l = c.loop-at in
+    let s = scope a.op a.card.now a.root.now a.chain.now in
+    Here a.op s (parts_added s a.left a.k (table a.n a.work.now) a.from a.to)
+    (growth_all a.op a.left false a.again a.w (between a.card.now a.from a.to)) a.to a.left
+    (table l.m l.work) l.at l.of l.i l.deep l.sum a.again l.wraps
+    c.record_kind-j.result c.record_length.result =
+    let inv = c.loop-at.invariant in
+    let pre = c.requires in
+    law.here inv.0 inv.1 pre.1 pre.2 c.is_short.ensures c.if-is_short.false c.if-deep-eq0.false
+    c.record_length.ensures c.record_kind-j.ensures in
     omega (arith, h.going.counted, h.going.ordered, c.requires.1, c.requires.2)
 
 pub survey_parts-loop-at-smaller-then-j-eq125 : goal.survey_parts-loop-at-smaller-then-j-eq125
 survey_parts-loop-at-smaller-then-j-eq125 t c =
     let h :
-        let a = c.args in
-        let l = c.loop-at in
-        let s = scope a.op a.card.now a.root.now a.chain.now in
-        Here a.op s (parts_added s a.left a.k (table a.n a.work.now) a.from a.to)
-        (growth_all a.op a.left false a.again a.w (between a.card.now a.from a.to)) a.to a.left
-        (table l.m l.work) l.at l.of l.i l.deep l.sum a.again l.wraps
-        c.record_kind-j.result c.record_length.result =
-        let inv = c.loop-at.invariant in
-        let pre = c.requires in
-        law.here inv.0 inv.1 pre.1 pre.2 c.is_short.ensures c.if-is_short.false c.if-deep-eq0.false
-        c.record_length.ensures c.record_kind-j.ensures in
+    let a = c.args in
+    let l = c.loop-at in
+    let s = scope a.op a.card.now a.root.now a.chain.now in
+    Here a.op s (parts_added s a.left a.k (table a.n a.work.now) a.from a.to)
+    (growth_all a.op a.left false a.again a.w (between a.card.now a.from a.to)) a.to a.left
+    (table l.m l.work) l.at l.of l.i l.deep l.sum a.again l.wraps
+    c.record_kind-j.result c.record_length.result =
+    let inv = c.loop-at.invariant in
+    let pre = c.requires in
+    law.here inv.0 inv.1 pre.1 pre.2 c.is_short.ensures c.if-is_short.false c.if-deep-eq0.false
+    c.record_length.ensures c.record_kind-j.ensures in
     omega (arith, h.head.after-head, h.head.inside)
 
 pub survey_parts-loop-at-preserved-then-j-eq125 : goal.survey_parts-loop-at-preserved-then-j-eq125
 survey_parts-loop-at-preserved-then-j-eq125 t c =
     let h :
-        let a = c.args in
-        let l = c.loop-at in
-        let s = scope a.op a.card.now a.root.now a.chain.now in
-        Here a.op s (parts_added s a.left a.k (table a.n a.work.now) a.from a.to)
-        (growth_all a.op a.left false a.again a.w (between a.card.now a.from a.to)) a.to a.left
-        (table l.m l.work) l.at l.of l.i l.deep l.sum a.again l.wraps
-        c.record_kind-j.result c.record_length.result =
-        let inv = c.loop-at.invariant in
-        let pre = c.requires in
-        law.here inv.0 inv.1 pre.1 pre.2 c.is_short.ensures c.if-is_short.false c.if-deep-eq0.false
-        c.record_length.ensures c.record_kind-j.ensures in (
+    let a = c.args in
+    let l = c.loop-at in
+    let s = scope a.op a.card.now a.root.now a.chain.now in
+    Here a.op s (parts_added s a.left a.k (table a.n a.work.now) a.from a.to)
+    (growth_all a.op a.left false a.again a.w (between a.card.now a.from a.to)) a.to a.left
+    (table l.m l.work) l.at l.of l.i l.deep l.sum a.again l.wraps
+    c.record_kind-j.result c.record_length.result =
+    let inv = c.loop-at.invariant in
+    let pre = c.requires in
+    law.here inv.0 inv.1 pre.1 pre.2 c.is_short.ensures c.if-is_short.false c.if-deep-eq0.false
+    c.record_length.ensures c.record_kind-j.ensures in (
       law.parts-goes h c.if-j-eq1.false c.if-j-eq3.false c.is_entered.ensures
           (ap not c.if-not-is_entered.false) c.if-j-eq45.false c.if-j-eq92.false c.stands.ensures
           c.if-stands.false c.survey_parts-o.ensures.0,
@@ -891,33 +891,33 @@ survey_parts-loop-at-preserved-then-j-eq125 t c =
 pub survey_parts-overflow_sub-deep-then-is_fixed : goal.survey_parts-overflow_sub-deep-then-is_fixed
 survey_parts-overflow_sub-deep-then-is_fixed t c =
     let h :
-        let a = c.args in
-        let l = c.loop-at in
-        let s = scope a.op a.card.now a.root.now a.chain.now in
-        Here a.op s (parts_added s a.left a.k (table a.n a.work.now) a.from a.to)
-        (growth_all a.op a.left false a.again a.w (between a.card.now a.from a.to)) a.to a.left
-        (table l.m l.work) l.at l.of l.i l.deep l.sum a.again l.wraps
-        c.record_kind-j.result c.record_length.result =
-        let inv = c.loop-at.invariant in
-        let pre = c.requires in
-        law.here inv.0 inv.1 pre.1 pre.2 c.is_short.ensures c.if-is_short.false c.if-deep-eq0.false
-        c.record_length.ensures c.record_kind-j.ensures in
+    let a = c.args in
+    let l = c.loop-at in
+    let s = scope a.op a.card.now a.root.now a.chain.now in
+    Here a.op s (parts_added s a.left a.k (table a.n a.work.now) a.from a.to)
+    (growth_all a.op a.left false a.again a.w (between a.card.now a.from a.to)) a.to a.left
+    (table l.m l.work) l.at l.of l.i l.deep l.sum a.again l.wraps
+    c.record_kind-j.result c.record_length.result =
+    let inv = c.loop-at.invariant in
+    let pre = c.requires in
+    law.here inv.0 inv.1 pre.1 pre.2 c.is_short.ensures c.if-is_short.false c.if-deep-eq0.false
+    c.record_length.ensures c.record_kind-j.ensures in
     at_least_one _ h.some
 
 pub survey_parts-survey_parts-x-requires : goal.survey_parts-survey_parts-x-requires
 survey_parts-survey_parts-x-requires t c =
     let h :
-        let a = c.args in
-        let l = c.loop-at in
-        let s = scope a.op a.card.now a.root.now a.chain.now in
-        Here a.op s (parts_added s a.left a.k (table a.n a.work.now) a.from a.to)
-        (growth_all a.op a.left false a.again a.w (between a.card.now a.from a.to)) a.to a.left
-        (table l.m l.work) l.at l.of l.i l.deep l.sum a.again l.wraps
-        c.record_kind-j.result c.record_length.result =
-        let inv = c.loop-at.invariant in
-        let pre = c.requires in
-        law.here inv.0 inv.1 pre.1 pre.2 c.is_short.ensures c.if-is_short.false c.if-deep-eq0.false
-        c.record_length.ensures c.record_kind-j.ensures in
+    let a = c.args in
+    let l = c.loop-at in
+    let s = scope a.op a.card.now a.root.now a.chain.now in
+    Here a.op s (parts_added s a.left a.k (table a.n a.work.now) a.from a.to)
+    (growth_all a.op a.left false a.again a.w (between a.card.now a.from a.to)) a.to a.left
+    (table l.m l.work) l.at l.of l.i l.deep l.sum a.again l.wraps
+    c.record_kind-j.result c.record_length.result =
+    let inv = c.loop-at.invariant in
+    let pre = c.requires in
+    law.here inv.0 inv.1 pre.1 pre.2 c.is_short.ensures c.if-is_short.false c.if-deep-eq0.false
+    c.record_length.ensures c.record_kind-j.ensures in
     let l = less-deep _ c.loop-at.deep c.args.left c.decreases h.going.under h.some in (
       omega arith,
       (h.head.after-head, omega (arith, h.head.inside, h.head.bound), h.small, omega (arith, h.head.turn.fit)),
@@ -926,49 +926,49 @@ survey_parts-survey_parts-x-requires t c =
 pub survey_parts-overflow_add-i-then-is_fixed : goal.survey_parts-overflow_add-i-then-is_fixed
 survey_parts-overflow_add-i-then-is_fixed t c =
     let h :
-        let a = c.args in
-        let l = c.loop-at in
-        let s = scope a.op a.card.now a.root.now a.chain.now in
-        Here a.op s (parts_added s a.left a.k (table a.n a.work.now) a.from a.to)
-        (growth_all a.op a.left false a.again a.w (between a.card.now a.from a.to)) a.to a.left
-        (table l.m l.work) l.at l.of l.i l.deep l.sum a.again l.wraps
-        c.record_kind-j.result c.record_length.result =
-        let inv = c.loop-at.invariant in
-        let pre = c.requires in
-        law.here inv.0 inv.1 pre.1 pre.2 c.is_short.ensures c.if-is_short.false c.if-deep-eq0.false
-        c.record_length.ensures c.record_kind-j.ensures in
+    let a = c.args in
+    let l = c.loop-at in
+    let s = scope a.op a.card.now a.root.now a.chain.now in
+    Here a.op s (parts_added s a.left a.k (table a.n a.work.now) a.from a.to)
+    (growth_all a.op a.left false a.again a.w (between a.card.now a.from a.to)) a.to a.left
+    (table l.m l.work) l.at l.of l.i l.deep l.sum a.again l.wraps
+    c.record_kind-j.result c.record_length.result =
+    let inv = c.loop-at.invariant in
+    let pre = c.requires in
+    law.here inv.0 inv.1 pre.1 pre.2 c.is_short.ensures c.if-is_short.false c.if-deep-eq0.false
+    c.record_length.ensures c.record_kind-j.ensures in
     omega (arith, h.going.counted, h.going.ordered, c.requires.1, c.requires.2)
 
 pub survey_parts-loop-at-smaller-then-is_fixed : goal.survey_parts-loop-at-smaller-then-is_fixed
 survey_parts-loop-at-smaller-then-is_fixed t c =
     let h :
-        let a = c.args in
-        let l = c.loop-at in
-        let s = scope a.op a.card.now a.root.now a.chain.now in
-        Here a.op s (parts_added s a.left a.k (table a.n a.work.now) a.from a.to)
-        (growth_all a.op a.left false a.again a.w (between a.card.now a.from a.to)) a.to a.left
-        (table l.m l.work) l.at l.of l.i l.deep l.sum a.again l.wraps
-        c.record_kind-j.result c.record_length.result =
-        let inv = c.loop-at.invariant in
-        let pre = c.requires in
-        law.here inv.0 inv.1 pre.1 pre.2 c.is_short.ensures c.if-is_short.false c.if-deep-eq0.false
-        c.record_length.ensures c.record_kind-j.ensures in
+    let a = c.args in
+    let l = c.loop-at in
+    let s = scope a.op a.card.now a.root.now a.chain.now in
+    Here a.op s (parts_added s a.left a.k (table a.n a.work.now) a.from a.to)
+    (growth_all a.op a.left false a.again a.w (between a.card.now a.from a.to)) a.to a.left
+    (table l.m l.work) l.at l.of l.i l.deep l.sum a.again l.wraps
+    c.record_kind-j.result c.record_length.result =
+    let inv = c.loop-at.invariant in
+    let pre = c.requires in
+    law.here inv.0 inv.1 pre.1 pre.2 c.is_short.ensures c.if-is_short.false c.if-deep-eq0.false
+    c.record_length.ensures c.record_kind-j.ensures in
     omega (arith, h.head.after-head, h.head.inside)
 
 pub survey_parts-loop-at-preserved-then-is_fixed : goal.survey_parts-loop-at-preserved-then-is_fixed
 survey_parts-loop-at-preserved-then-is_fixed t c =
     let h :
-        let a = c.args in
-        let l = c.loop-at in
-        let s = scope a.op a.card.now a.root.now a.chain.now in
-        Here a.op s (parts_added s a.left a.k (table a.n a.work.now) a.from a.to)
-        (growth_all a.op a.left false a.again a.w (between a.card.now a.from a.to)) a.to a.left
-        (table l.m l.work) l.at l.of l.i l.deep l.sum a.again l.wraps
-        c.record_kind-j.result c.record_length.result =
-        let inv = c.loop-at.invariant in
-        let pre = c.requires in
-        law.here inv.0 inv.1 pre.1 pre.2 c.is_short.ensures c.if-is_short.false c.if-deep-eq0.false
-        c.record_length.ensures c.record_kind-j.ensures in (
+    let a = c.args in
+    let l = c.loop-at in
+    let s = scope a.op a.card.now a.root.now a.chain.now in
+    Here a.op s (parts_added s a.left a.k (table a.n a.work.now) a.from a.to)
+    (growth_all a.op a.left false a.again a.w (between a.card.now a.from a.to)) a.to a.left
+    (table l.m l.work) l.at l.of l.i l.deep l.sum a.again l.wraps
+    c.record_kind-j.result c.record_length.result =
+    let inv = c.loop-at.invariant in
+    let pre = c.requires in
+    law.here inv.0 inv.1 pre.1 pre.2 c.is_short.ensures c.if-is_short.false c.if-deep-eq0.false
+    c.record_length.ensures c.record_kind-j.ensures in (
       law.parts-goes h c.if-j-eq1.false c.if-j-eq3.false c.is_entered.ensures
           (ap not c.if-not-is_entered.false) c.if-j-eq45.false c.if-j-eq92.false c.stands.ensures
           c.if-stands.false c.survey_parts-x.ensures.0,
@@ -979,49 +979,49 @@ survey_parts-loop-at-preserved-then-is_fixed t c =
 pub survey_parts-overflow_sub-deep-then-next-to : goal.survey_parts-overflow_sub-deep-then-next-to
 survey_parts-overflow_sub-deep-then-next-to t c =
     let h :
-        let a = c.args in
-        let l = c.loop-at in
-        let s = scope a.op a.card.now a.root.now a.chain.now in
-        Here a.op s (parts_added s a.left a.k (table a.n a.work.now) a.from a.to)
-        (growth_all a.op a.left false a.again a.w (between a.card.now a.from a.to)) a.to a.left
-        (table l.m l.work) l.at l.of l.i l.deep l.sum a.again l.wraps
-        c.record_kind-j.result c.record_length.result =
-        let inv = c.loop-at.invariant in
-        let pre = c.requires in
-        law.here inv.0 inv.1 pre.1 pre.2 c.is_short.ensures c.if-is_short.false c.if-deep-eq0.false
-        c.record_length.ensures c.record_kind-j.ensures in
+    let a = c.args in
+    let l = c.loop-at in
+    let s = scope a.op a.card.now a.root.now a.chain.now in
+    Here a.op s (parts_added s a.left a.k (table a.n a.work.now) a.from a.to)
+    (growth_all a.op a.left false a.again a.w (between a.card.now a.from a.to)) a.to a.left
+    (table l.m l.work) l.at l.of l.i l.deep l.sum a.again l.wraps
+    c.record_kind-j.result c.record_length.result =
+    let inv = c.loop-at.invariant in
+    let pre = c.requires in
+    law.here inv.0 inv.1 pre.1 pre.2 c.is_short.ensures c.if-is_short.false c.if-deep-eq0.false
+    c.record_length.ensures c.record_kind-j.ensures in
     at_least_one _ h.some
 
 pub survey_parts-loop-at-smaller-then-next-to : goal.survey_parts-loop-at-smaller-then-next-to
 survey_parts-loop-at-smaller-then-next-to t c =
     let h :
-        let a = c.args in
-        let l = c.loop-at in
-        let s = scope a.op a.card.now a.root.now a.chain.now in
-        Here a.op s (parts_added s a.left a.k (table a.n a.work.now) a.from a.to)
-        (growth_all a.op a.left false a.again a.w (between a.card.now a.from a.to)) a.to a.left
-        (table l.m l.work) l.at l.of l.i l.deep l.sum a.again l.wraps
-        c.record_kind-j.result c.record_length.result =
-        let inv = c.loop-at.invariant in
-        let pre = c.requires in
-        law.here inv.0 inv.1 pre.1 pre.2 c.is_short.ensures c.if-is_short.false c.if-deep-eq0.false
-        c.record_length.ensures c.record_kind-j.ensures in
+    let a = c.args in
+    let l = c.loop-at in
+    let s = scope a.op a.card.now a.root.now a.chain.now in
+    Here a.op s (parts_added s a.left a.k (table a.n a.work.now) a.from a.to)
+    (growth_all a.op a.left false a.again a.w (between a.card.now a.from a.to)) a.to a.left
+    (table l.m l.work) l.at l.of l.i l.deep l.sum a.again l.wraps
+    c.record_kind-j.result c.record_length.result =
+    let inv = c.loop-at.invariant in
+    let pre = c.requires in
+    law.here inv.0 inv.1 pre.1 pre.2 c.is_short.ensures c.if-is_short.false c.if-deep-eq0.false
+    c.record_length.ensures c.record_kind-j.ensures in
     omega (arith, h.head.after-head, h.head.inside)
 
 pub survey_parts-loop-at-preserved-then-next-to : goal.survey_parts-loop-at-preserved-then-next-to
 survey_parts-loop-at-preserved-then-next-to t c =
     let h :
-        let a = c.args in
-        let l = c.loop-at in
-        let s = scope a.op a.card.now a.root.now a.chain.now in
-        Here a.op s (parts_added s a.left a.k (table a.n a.work.now) a.from a.to)
-        (growth_all a.op a.left false a.again a.w (between a.card.now a.from a.to)) a.to a.left
-        (table l.m l.work) l.at l.of l.i l.deep l.sum a.again l.wraps
-        c.record_kind-j.result c.record_length.result =
-        let inv = c.loop-at.invariant in
-        let pre = c.requires in
-        law.here inv.0 inv.1 pre.1 pre.2 c.is_short.ensures c.if-is_short.false c.if-deep-eq0.false
-        c.record_length.ensures c.record_kind-j.ensures in (
+    let a = c.args in
+    let l = c.loop-at in
+    let s = scope a.op a.card.now a.root.now a.chain.now in
+    Here a.op s (parts_added s a.left a.k (table a.n a.work.now) a.from a.to)
+    (growth_all a.op a.left false a.again a.w (between a.card.now a.from a.to)) a.to a.left
+    (table l.m l.work) l.at l.of l.i l.deep l.sum a.again l.wraps
+    c.record_kind-j.result c.record_length.result =
+    let inv = c.loop-at.invariant in
+    let pre = c.requires in
+    law.here inv.0 inv.1 pre.1 pre.2 c.is_short.ensures c.if-is_short.false c.if-deep-eq0.false
+    c.record_length.ensures c.record_kind-j.ensures in (
       law.in-goes h c.if-j-eq1.false c.if-j-eq3.false c.is_entered.ensures
           (ap not c.if-not-is_entered.false) c.if-j-eq45.false c.if-j-eq92.false c.stands.ensures
           c.if-stands.false c.if-next-to.true,
@@ -1034,33 +1034,33 @@ survey_parts-loop-at-preserved-then-next-to t c =
 pub survey_parts-overflow_sub-deep-in-loop-at : goal.survey_parts-overflow_sub-deep-in-loop-at
 survey_parts-overflow_sub-deep-in-loop-at t c =
     let h :
-        let a = c.args in
-        let l = c.loop-at in
-        let s = scope a.op a.card.now a.root.now a.chain.now in
-        Here a.op s (parts_added s a.left a.k (table a.n a.work.now) a.from a.to)
-        (growth_all a.op a.left false a.again a.w (between a.card.now a.from a.to)) a.to a.left
-        (table l.m l.work) l.at l.of l.i l.deep l.sum a.again l.wraps
-        c.record_kind-j.result c.record_length.result =
-        let inv = c.loop-at.invariant in
-        let pre = c.requires in
-        law.here inv.0 inv.1 pre.1 pre.2 c.is_short.ensures c.if-is_short.false c.if-deep-eq0.false
-        c.record_length.ensures c.record_kind-j.ensures in
+    let a = c.args in
+    let l = c.loop-at in
+    let s = scope a.op a.card.now a.root.now a.chain.now in
+    Here a.op s (parts_added s a.left a.k (table a.n a.work.now) a.from a.to)
+    (growth_all a.op a.left false a.again a.w (between a.card.now a.from a.to)) a.to a.left
+    (table l.m l.work) l.at l.of l.i l.deep l.sum a.again l.wraps
+    c.record_kind-j.result c.record_length.result =
+    let inv = c.loop-at.invariant in
+    let pre = c.requires in
+    law.here inv.0 inv.1 pre.1 pre.2 c.is_short.ensures c.if-is_short.false c.if-deep-eq0.false
+    c.record_length.ensures c.record_kind-j.ensures in
     at_least_one _ h.some
 
 pub survey_parts-survey_parts-p-requires : goal.survey_parts-survey_parts-p-requires
 survey_parts-survey_parts-p-requires t c =
     let h :
-        let a = c.args in
-        let l = c.loop-at in
-        let s = scope a.op a.card.now a.root.now a.chain.now in
-        Here a.op s (parts_added s a.left a.k (table a.n a.work.now) a.from a.to)
-        (growth_all a.op a.left false a.again a.w (between a.card.now a.from a.to)) a.to a.left
-        (table l.m l.work) l.at l.of l.i l.deep l.sum a.again l.wraps
-        c.record_kind-j.result c.record_length.result =
-        let inv = c.loop-at.invariant in
-        let pre = c.requires in
-        law.here inv.0 inv.1 pre.1 pre.2 c.is_short.ensures c.if-is_short.false c.if-deep-eq0.false
-        c.record_length.ensures c.record_kind-j.ensures in
+    let a = c.args in
+    let l = c.loop-at in
+    let s = scope a.op a.card.now a.root.now a.chain.now in
+    Here a.op s (parts_added s a.left a.k (table a.n a.work.now) a.from a.to)
+    (growth_all a.op a.left false a.again a.w (between a.card.now a.from a.to)) a.to a.left
+    (table l.m l.work) l.at l.of l.i l.deep l.sum a.again l.wraps
+    c.record_kind-j.result c.record_length.result =
+    let inv = c.loop-at.invariant in
+    let pre = c.requires in
+    law.here inv.0 inv.1 pre.1 pre.2 c.is_short.ensures c.if-is_short.false c.if-deep-eq0.false
+    c.record_length.ensures c.record_kind-j.ensures in
     let l = less-deep _ c.loop-at.deep c.args.left c.decreases h.going.under h.some in
     let i = law.inner-fits h c.is_fixed.ensures c.if-is_fixed.false c.if-j-eq45.false
     c.if-j-eq92.false c.if-j-eq125.false c.stands.ensures c.if-stands.false
@@ -1072,17 +1072,17 @@ survey_parts-survey_parts-p-requires t c =
 pub survey_parts-overflow_add-sum-in-loop-at : goal.survey_parts-overflow_add-sum-in-loop-at
 survey_parts-overflow_add-sum-in-loop-at t c =
     let h :
-        let a = c.args in
-        let l = c.loop-at in
-        let s = scope a.op a.card.now a.root.now a.chain.now in
-        Here a.op s (parts_added s a.left a.k (table a.n a.work.now) a.from a.to)
-        (growth_all a.op a.left false a.again a.w (between a.card.now a.from a.to)) a.to a.left
-        (table l.m l.work) l.at l.of l.i l.deep l.sum a.again l.wraps
-        c.record_kind-j.result c.record_length.result =
-        let inv = c.loop-at.invariant in
-        let pre = c.requires in
-        law.here inv.0 inv.1 pre.1 pre.2 c.is_short.ensures c.if-is_short.false c.if-deep-eq0.false
-        c.record_length.ensures c.record_kind-j.ensures in
+    let a = c.args in
+    let l = c.loop-at in
+    let s = scope a.op a.card.now a.root.now a.chain.now in
+    Here a.op s (parts_added s a.left a.k (table a.n a.work.now) a.from a.to)
+    (growth_all a.op a.left false a.again a.w (between a.card.now a.from a.to)) a.to a.left
+    (table l.m l.work) l.at l.of l.i l.deep l.sum a.again l.wraps
+    c.record_kind-j.result c.record_length.result =
+    let inv = c.loop-at.invariant in
+    let pre = c.requires in
+    law.here inv.0 inv.1 pre.1 pre.2 c.is_short.ensures c.if-is_short.false c.if-deep-eq0.false
+    c.record_length.ensures c.record_kind-j.ensures in
     let n = law.held-grows h c.is_fixed.ensures c.if-is_fixed.false c.if-j-eq45.false
     c.if-j-eq92.false c.if-j-eq125.false c.stands.ensures c.if-stands.false
     c.wraps_at-v.ensures _ c.survey_parts-p.ensures.1 in
@@ -1091,49 +1091,49 @@ survey_parts-overflow_add-sum-in-loop-at t c =
 pub survey_parts-overflow_add-i-in-loop-at : goal.survey_parts-overflow_add-i-in-loop-at
 survey_parts-overflow_add-i-in-loop-at t c =
     let h :
-        let a = c.args in
-        let l = c.loop-at in
-        let s = scope a.op a.card.now a.root.now a.chain.now in
-        Here a.op s (parts_added s a.left a.k (table a.n a.work.now) a.from a.to)
-        (growth_all a.op a.left false a.again a.w (between a.card.now a.from a.to)) a.to a.left
-        (table l.m l.work) l.at l.of l.i l.deep l.sum a.again l.wraps
-        c.record_kind-j.result c.record_length.result =
-        let inv = c.loop-at.invariant in
-        let pre = c.requires in
-        law.here inv.0 inv.1 pre.1 pre.2 c.is_short.ensures c.if-is_short.false c.if-deep-eq0.false
-        c.record_length.ensures c.record_kind-j.ensures in
+    let a = c.args in
+    let l = c.loop-at in
+    let s = scope a.op a.card.now a.root.now a.chain.now in
+    Here a.op s (parts_added s a.left a.k (table a.n a.work.now) a.from a.to)
+    (growth_all a.op a.left false a.again a.w (between a.card.now a.from a.to)) a.to a.left
+    (table l.m l.work) l.at l.of l.i l.deep l.sum a.again l.wraps
+    c.record_kind-j.result c.record_length.result =
+    let inv = c.loop-at.invariant in
+    let pre = c.requires in
+    law.here inv.0 inv.1 pre.1 pre.2 c.is_short.ensures c.if-is_short.false c.if-deep-eq0.false
+    c.record_length.ensures c.record_kind-j.ensures in
     omega (arith, h.going.counted, h.going.ordered, c.requires.1, c.requires.2)
 
 pub survey_parts-loop-at-smaller : goal.survey_parts-loop-at-smaller
 survey_parts-loop-at-smaller t c =
     let h :
-        let a = c.args in
-        let l = c.loop-at in
-        let s = scope a.op a.card.now a.root.now a.chain.now in
-        Here a.op s (parts_added s a.left a.k (table a.n a.work.now) a.from a.to)
-        (growth_all a.op a.left false a.again a.w (between a.card.now a.from a.to)) a.to a.left
-        (table l.m l.work) l.at l.of l.i l.deep l.sum a.again l.wraps
-        c.record_kind-j.result c.record_length.result =
-        let inv = c.loop-at.invariant in
-        let pre = c.requires in
-        law.here inv.0 inv.1 pre.1 pre.2 c.is_short.ensures c.if-is_short.false c.if-deep-eq0.false
-        c.record_length.ensures c.record_kind-j.ensures in
+    let a = c.args in
+    let l = c.loop-at in
+    let s = scope a.op a.card.now a.root.now a.chain.now in
+    Here a.op s (parts_added s a.left a.k (table a.n a.work.now) a.from a.to)
+    (growth_all a.op a.left false a.again a.w (between a.card.now a.from a.to)) a.to a.left
+    (table l.m l.work) l.at l.of l.i l.deep l.sum a.again l.wraps
+    c.record_kind-j.result c.record_length.result =
+    let inv = c.loop-at.invariant in
+    let pre = c.requires in
+    law.here inv.0 inv.1 pre.1 pre.2 c.is_short.ensures c.if-is_short.false c.if-deep-eq0.false
+    c.record_length.ensures c.record_kind-j.ensures in
     omega (arith, h.head.after-head, h.head.inside)
 
 pub survey_parts-loop-at-preserved : goal.survey_parts-loop-at-preserved
 survey_parts-loop-at-preserved t c =
     let h :
-        let a = c.args in
-        let l = c.loop-at in
-        let s = scope a.op a.card.now a.root.now a.chain.now in
-        Here a.op s (parts_added s a.left a.k (table a.n a.work.now) a.from a.to)
-        (growth_all a.op a.left false a.again a.w (between a.card.now a.from a.to)) a.to a.left
-        (table l.m l.work) l.at l.of l.i l.deep l.sum a.again l.wraps
-        c.record_kind-j.result c.record_length.result =
-        let inv = c.loop-at.invariant in
-        let pre = c.requires in
-        law.here inv.0 inv.1 pre.1 pre.2 c.is_short.ensures c.if-is_short.false c.if-deep-eq0.false
-        c.record_length.ensures c.record_kind-j.ensures in (
+    let a = c.args in
+    let l = c.loop-at in
+    let s = scope a.op a.card.now a.root.now a.chain.now in
+    Here a.op s (parts_added s a.left a.k (table a.n a.work.now) a.from a.to)
+    (growth_all a.op a.left false a.again a.w (between a.card.now a.from a.to)) a.to a.left
+    (table l.m l.work) l.at l.of l.i l.deep l.sum a.again l.wraps
+    c.record_kind-j.result c.record_length.result =
+    let inv = c.loop-at.invariant in
+    let pre = c.requires in
+    law.here inv.0 inv.1 pre.1 pre.2 c.is_short.ensures c.if-is_short.false c.if-deep-eq0.false
+    c.record_length.ensures c.record_kind-j.ensures in (
       law.parts-goes h c.if-j-eq1.false
           c.if-j-eq3.false
           c.is_entered.ensures

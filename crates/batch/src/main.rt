@@ -11,8 +11,9 @@ mod places;
 ghost use Rattle.std.specs.Prelude.{◌≡◌, ◌≤◌, length};
 
 use answers::Answer;
-use libc::{STDERR_FILENO, STDIN_FILENO, STDOUT_FILENO};
 use operation::Pass;
+use std::io;
+use std::io::Read;
 
 // So many bytes of text are at hand; whether anything has been read; whether there may be more.
 #[derive(Clone, Copy)]
@@ -41,30 +42,32 @@ fn word_room() -> [u32; 131072]
     [0; 131072]
 }
 
-fn say(text: &[u8]) {
-    io::write_all(STDOUT_FILENO, text);
+fn say(rt: &impl Print, text: &[u8]) -> io::Result<()> {
+    rt.write_all(text)
 }
 
 // An acceptance, as far as its bytes go.
-fn say_output(out: &[u8], n: usize) {
-    say(b"0 ");
-    io::print_decimal(STDOUT_FILENO, n as u64);
-    say(b" ");
-    test_input::say_bytes(wire::part(out, 0, n));
+fn say_output(rt: &impl Print, out: &[u8], n: usize) -> io::Result<()> {
+    say(rt, b"0 ")?;
+    rt.print(n)?;
+    say(rt, b" ")?;
+    test_input::say_bytes(rt, wire::part(out, 0, n))
 }
 
 // The answer, where the lent memory is as it promises; an acceptance ends so.
-fn say_answer(a: Answer, out: &[u8], work: &[u32], end: &[u8]) {
+fn say_answer(rt: &impl Print, a: Answer, out: &[u8], work: &[u32], end: &[u8]) -> io::Result<()> {
     if !memory::is_kept(a, out, work) {
-        say(b"broken promise: the out buffer or the work words are not as they should be\n");
-        return;
+        return say(
+            rt,
+            b"broken promise: the out buffer or the work words are not as they should be\n",
+        );
     }
     match a {
         Answer::Shortened(n) => {
-            say_output(out, n);
-            say(end);
+            say_output(rt, out, n)?;
+            say(rt, end)
         }
-        _ => test_input::say_refusal(a),
+        _ => test_input::say_refusal(rt, a),
     }
 }
 
@@ -107,22 +110,33 @@ fn is_same_alone(
         || answers::packed(a) == answers::packed(b) && wire::same(out, wire::part(own, 0, n))
 }
 
-fn answer(pass: Pass, card: &[u8], root: &[u8], out: &mut [u8], work: &mut [u32], end: &[u8]) {
+fn answer(
+    rt: &impl Print,
+    pass: Pass,
+    card: &[u8],
+    root: &[u8],
+    out: &mut [u8],
+    work: &mut [u32],
+    end: &[u8],
+) -> io::Result<()> {
     memory::fill(out);
     memory::fill_words(work);
     let a = shortening::shorten(pass, card, root, out, work);
     if 2048 <= work.len() {
         let mut own = test_input::room();
         if !is_same_alone(pass, card, root, a, out, work.len(), &mut own) {
-            say(b"broken promise: the call with work words of its own answers otherwise\n");
-            return;
+            return say(
+                rt,
+                b"broken promise: the call with work words of its own answers otherwise\n",
+            );
         }
     }
-    say_answer(a, out, work, end);
+    say_answer(rt, a, out, work, end)
 }
 
 // With so much lent, or all there is.
 fn lend(
+    rt: &impl Print,
     pass: Pass,
     card: &[u8],
     root: &[u8],
@@ -131,10 +145,10 @@ fn lend(
     work: &mut [u32],
     words: usize,
     end: &[u8],
-) {
+) -> io::Result<()> {
     let n = least(bytes, out.len());
     let m = least(words, work.len());
-    answer(pass, card, root, &mut out[..n], &mut work[..m], end);
+    answer(rt, pass, card, root, &mut out[..n], &mut work[..m], end)
 }
 
 // What stands ahead of ` = `, or all.
@@ -158,7 +172,12 @@ fn are_fields(root: &[u8], card: &[u8], bytes: &[u8], words: &[u8]) -> bool {
 }
 
 // One case without a list.
-fn plain_case(question: &[u8], out: &mut [u8], work: &mut [u32]) {
+fn plain_case(
+    rt: &impl Print,
+    question: &[u8],
+    out: &mut [u8],
+    work: &mut [u32],
+) -> io::Result<()> {
     let rest = test_text::beyond(question, b' ');
     let sizes = test_text::beyond(rest, b' ');
     let first = test_text::until(question, b' ');
@@ -166,16 +185,17 @@ fn plain_case(question: &[u8], out: &mut [u8], work: &mut [u32]) {
     let third = test_text::until(sizes, b' ');
     let fourth = test_text::beyond(sizes, b' ');
     if !are_fields(first, second, third, fourth) {
-        say(
+        return say(
+            rt,
             b"no case: write ROOT CARD OUTLEN WORKLEN in less than 262144 characters, the first two in hexadecimal, - for no bytes\n",
         );
-        return;
     }
     let mut root = field_room();
     let mut card = field_room();
     let n = test_text::decode(first, &mut root);
     let m = test_text::decode(second, &mut card);
     lend(
+        rt,
         Pass::Upstream,
         wire::part(&card, 0, m),
         wire::part(&root, 0, n),
@@ -184,7 +204,7 @@ fn plain_case(question: &[u8], out: &mut [u8], work: &mut [u32]) {
         work,
         test_text::decimal(fourth),
         b"\n",
-    );
+    )
 }
 
 // Whether what follows PLACES is as a case of a pass has it: nothing, or COUNTS.
@@ -197,6 +217,7 @@ fn is_end(pass: Pass, rest: &[u8]) -> bool {
 
 // One case of a pass with a list, or with x for none; how an acceptance ends where there is a list, and where there is none.
 fn list_case(
+    rt: &impl Print,
     pass: Pass,
     question: &[u8],
     hint: &[u8],
@@ -204,7 +225,7 @@ fn list_case(
     bare_end: &[u8],
     out: &mut [u8],
     work: &mut [u32],
-) {
+) -> io::Result<()> {
     let rest = test_text::beyond(question, b' ');
     let sizes = test_text::beyond(rest, b' ');
     let words = test_text::beyond(sizes, b' ');
@@ -219,15 +240,15 @@ fn list_case(
         || !none && !test_text::is_number(fifth)
         || !is_end(pass, wire::part(lists, fifth.len(), lists.len()))
     {
-        say(hint);
-        return;
+        return say(rt, hint);
     }
     let mut root = field_room();
     let mut card = field_room();
     let n = test_text::decode(first, &mut root);
     let m = test_text::decode(second, &mut card);
     if none {
-        lend(
+        return lend(
+            rt,
             pass,
             wire::part(&card, 0, m),
             wire::part(&root, 0, n),
@@ -237,9 +258,9 @@ fn list_case(
             test_text::decimal(fourth),
             bare_end,
         );
-        return;
     }
     places::lend(
+        rt,
         pass,
         wire::part(&card, 0, m),
         wire::part(&root, 0, n),
@@ -249,11 +270,12 @@ fn list_case(
         test_text::decimal(fourth),
         test_text::decimal(fifth),
         end,
-    );
+    )
 }
 
-fn old_case(question: &[u8], out: &mut [u8], work: &mut [u32]) {
+fn old_case(rt: &impl Print, question: &[u8], out: &mut [u8], work: &mut [u32]) -> io::Result<()> {
     list_case(
+        rt,
         Pass::Upstream,
         question,
         b"no case: write old ROOT CARD OUTLEN WORKLEN PLACES in less than 262144 characters, PLACES a number of words or x for no list\n",
@@ -261,11 +283,17 @@ fn old_case(question: &[u8], out: &mut [u8], work: &mut [u32]) {
         b" x x\n",
         out,
         work,
-    );
+    )
 }
 
-fn straight_case(question: &[u8], out: &mut [u8], work: &mut [u32]) {
+fn straight_case(
+    rt: &impl Print,
+    question: &[u8],
+    out: &mut [u8],
+    work: &mut [u32],
+) -> io::Result<()> {
     list_case(
+        rt,
         Pass::Straight,
         question,
         b"no case: write straight ROOT CARD OUTLEN WORKLEN PLACES COUNTS in less than 262144 characters, PLACES a number of words or x for no list, COUNTS x\n",
@@ -273,35 +301,33 @@ fn straight_case(question: &[u8], out: &mut [u8], work: &mut [u32]) {
         b" x x x x\n",
         out,
         work,
-    );
+    )
 }
 
-fn case(line: &[u8], out: &mut [u8], work: &mut [u32]) {
+fn case(rt: &impl Print, line: &[u8], out: &mut [u8], work: &mut [u32]) -> io::Result<()> {
     let question = asked(line);
     if wire::same(wire::part(question, 0, 4), b"old ") {
-        old_case(wire::part(question, 4, question.len()), out, work);
-        return;
+        return old_case(rt, wire::part(question, 4, question.len()), out, work);
     }
     if wire::same(wire::part(question, 0, 9), b"straight ") {
-        straight_case(wire::part(question, 9, question.len()), out, work);
-        return;
+        return straight_case(rt, wire::part(question, 9, question.len()), out, work);
     }
-    plain_case(question, out, work);
+    plain_case(rt, question, out, work)
 }
 
 // The whole lines at the front of the text, one after the other; answers where the rest starts.
-fn lines(text: &[u8], out: &mut [u8], work: &mut [u32]) -> usize {
+fn lines(rt: &impl Print, text: &[u8], out: &mut [u8], work: &mut [u32]) -> io::Result<usize> {
     let mut i = 0;
     while i < text.len() {
         let line = test_text::line_at(text, i);
         let end = i + line.len();
         if text.len() <= end {
-            return i;
+            return Ok(i);
         }
-        case(line, out, work);
+        case(rt, line, out, work)?;
         i = end + 1;
     }
-    i
+    Ok(i)
 }
 
 // Brings what stands from a place to another to the front; answers how many bytes that are.
@@ -319,35 +345,48 @@ fn bring(text: &mut [u8], from: usize, to: usize) -> usize {
 
 // Answers the whole lines among so many bytes of text and brings the rest to the front; answers how many bytes that are. Where the rest fills all of the
 // text, its line is too long, and a byte that no case has stands for it until its end is read.
-fn take_lines(text: &mut [u8], all: usize, out: &mut [u8], work: &mut [u32]) -> usize {
-    let done = lines(wire::part(text, 0, all), out, work);
+fn take_lines(
+    rt: &impl Print,
+    text: &mut [u8],
+    all: usize,
+    out: &mut [u8],
+    work: &mut [u32],
+) -> io::Result<usize> {
+    let done = lines(rt, wire::part(text, 0, all), out, work)?;
     let left = bring(text, done, all);
     if left < text.len() {
-        return left;
+        return Ok(left);
     }
     if text.len() == 0 {
-        return 0;
+        return Ok(0);
     }
     text[0] = b'?';
-    1
+    Ok(1)
 }
 
 // What is left when no more can be read: a line without an end, or none.
-fn finish(line: &[u8], begun: bool, failed: bool, out: &mut [u8], work: &mut [u32]) {
+fn finish(
+    rt: &(impl Print + Eprint),
+    line: &[u8],
+    begun: bool,
+    failed: bool,
+    out: &mut [u8],
+    work: &mut [u32],
+) -> io::Result<()> {
     if failed {
-        io::write_all(STDERR_FILENO, b"standard input can't be read\n");
-        return;
+        let _ = eprintln!(rt; "standard input can't be read");
+        return Ok(());
     }
     if !begun {
-        io::write_all(
-            STDERR_FILENO,
-            b"no cases: give them on standard input, one to a line, as ROOT CARD OUTLEN WORKLEN\n",
+        let _ = eprintln!(rt;
+            "no cases: give them on standard input, one to a line, as ROOT CARD OUTLEN WORKLEN"
         );
-        return;
+        return Ok(());
     }
     if 0 < line.len() {
-        case(line, out, work);
+        case(rt, line, out, work)?;
     }
+    Ok(())
 }
 
 fn closed() -> Input {
@@ -359,42 +398,60 @@ fn closed() -> Input {
 }
 
 // One read, behind what is at hand, and the lines that are whole then.
-fn turn(text: &mut [u8], input: Input, out: &mut [u8], work: &mut [u32]) -> Input {
+fn turn(
+    rt: &(impl Print + Eprint),
+    stdin: &mut impl Read,
+    text: &mut [u8],
+    input: Input,
+    out: &mut [u8],
+    work: &mut [u32],
+) -> io::Result<Input> {
     let have = input.have;
     if text.len() <= have {
-        return closed();
+        return Ok(closed());
     }
-    let got = libc::read(STDIN_FILENO, &mut text[have..]);
-    if got <= 0 {
-        finish(wire::part(text, 0, have), input.begun, got < 0, out, work);
-        return closed();
-    }
-    let all = have + io::count(got, wire::part(text, have, text.len()));
-    let left = take_lines(text, all, out, work);
-    Input {
-        have: left,
-        begun: true,
-        open: true,
+    match stdin.read(&mut text[have..]) {
+        Ok(n) if 0 < n => {
+            let left = take_lines(rt, text, have + n, out, work)?;
+            Ok(Input {
+                have: left,
+                begun: true,
+                open: true,
+            })
+        }
+        end => {
+            let line = wire::part(text, 0, have);
+            finish(rt, line, input.begun, end.is_err(), out, work)?;
+            Ok(closed())
+        }
     }
 }
 
 // A proved loop has to end, and nothing says that the input does: so many turns are never used up.
-fn run(text: &mut [u8], out: &mut [u8], work: &mut [u32]) {
+fn run(
+    rt: &(impl Print + Eprint),
+    stdin: &mut impl Read,
+    text: &mut [u8],
+    out: &mut [u8],
+    work: &mut [u32],
+) -> io::Result<()> {
     let mut input = Input {
         have: 0,
         begun: false,
         open: true,
     };
-    let mut turns = u64::MAX;
-    while 0 < turns && input.open {
-        input = turn(text, input, out, work);
-        turns -= 1;
+    for _ in 0..u64::MAX {
+        if !input.open {
+            break;
+        }
+        input = turn(rt, stdin, text, input, out, work)?;
     }
+    Ok(())
 }
 
-fn main() {
+fn main(rt: HostRuntime) -> io::Result<()> {
     let mut text = line_room();
     let mut out = test_input::room();
     let mut work = word_room();
-    run(&mut text, &mut out, &mut work);
+    run(&rt, &mut rt.reader(), &mut text, &mut out, &mut work)
 }

@@ -3,9 +3,9 @@ ghost use Rattle.std.specs.Prelude.{◌≡◌, length};
 
 use crate::{least, may_differ, memory, say, say_output};
 use answers::Answer;
-use libc::STDOUT_FILENO;
 use operation::Pass;
 use placing::Listed;
+use std::io;
 
 // Room for a list: a card's entries take fewer words than that.
 fn list_room() -> [u32; 65536]
@@ -14,47 +14,55 @@ fn list_room() -> [u32; 65536]
     [0; 65536]
 }
 
-fn say_word(word: u32) {
-    io::print_decimal(STDOUT_FILENO, word as u64);
+fn say_word(rt: &impl Print, word: u32) -> io::Result<()> {
+    rt.print(word)
 }
 
 // The words of so many entries, with commas between them, or - for none.
-fn say_words(list: &[u32], entries: usize) {
+fn say_words(rt: &impl Print, list: &[u32], entries: usize) -> io::Result<()> {
     if entries == 0 {
-        say(b"-");
+        say(rt, b"-")?;
     }
     let mut i = 0;
     while i < list.len() {
         if entries <= i / 2 {
-            return;
+            return Ok(());
         }
         if 0 < i {
-            say(b",");
+            say(rt, b",")?;
         }
-        say_word(list[i]);
+        say_word(rt, list[i])?;
         i += 1;
     }
+    Ok(())
 }
 
 // The answer, where the lent memory is as it promises; an acceptance ends so.
-fn say_listed(r: Listed, out: &[u8], work: &[u32], list: &[u32], end: &[u8]) {
+fn say_listed(
+    rt: &impl Print,
+    r: Listed,
+    out: &[u8],
+    work: &[u32],
+    list: &[u32],
+    end: &[u8],
+) -> io::Result<()> {
     let a = r.answer;
     if !memory::is_kept(a, out, work) || !memory::is_list_kept(a, r.entries, list) {
-        say(
+        return say(
+            rt,
             b"broken promise: the out buffer, the work words or the list are not as they should be\n",
         );
-        return;
     }
     match a {
         Answer::Shortened(n) => {
-            say_output(out, n);
-            say(b" ");
-            io::print_decimal(STDOUT_FILENO, r.entries as u64);
-            say(b" ");
-            say_words(list, r.entries);
-            say(end);
+            say_output(rt, out, n)?;
+            say(rt, b" ")?;
+            rt.print(r.entries)?;
+            say(rt, b" ")?;
+            say_words(rt, list, r.entries)?;
+            say(rt, end)
         }
-        _ => test_input::say_refusal(a),
+        _ => test_input::say_refusal(rt, a),
     }
 }
 
@@ -132,6 +140,7 @@ fn is_same_alone(
 }
 
 fn answer(
+    rt: &impl Print,
     pass: Pass,
     card: &[u8],
     root: &[u8],
@@ -139,17 +148,20 @@ fn answer(
     work: &mut [u32],
     list: &mut [u32],
     end: &[u8],
-) {
+) -> io::Result<()> {
     let r = called(pass, card, root, out, work, list);
     if 2048 <= work.len() && !is_same_alone(pass, card, root, r, out, work.len(), list) {
-        say(b"broken promise: the call with work words of its own answers otherwise\n");
-        return;
+        return say(
+            rt,
+            b"broken promise: the call with work words of its own answers otherwise\n",
+        );
     }
-    say_listed(r, out, work, list, end);
+    say_listed(rt, r, out, work, list, end)
 }
 
 // With so much lent, or all there is.
 pub fn lend(
+    rt: &impl Print,
     pass: Pass,
     card: &[u8],
     root: &[u8],
@@ -159,12 +171,13 @@ pub fn lend(
     words: usize,
     places: usize,
     end: &[u8],
-) {
+) -> io::Result<()> {
     let mut list = list_room();
     let n = least(bytes, out.len());
     let m = least(words, work.len());
     let k = least(places, 65536);
     answer(
+        rt,
         pass,
         card,
         root,
@@ -172,5 +185,5 @@ pub fn lend(
         &mut work[..m],
         &mut list[..k],
         end,
-    );
+    )
 }

@@ -2,51 +2,72 @@
 // standard input can't be read or standard output can't be written, standard error says so.
 #![tactic(auto)]
 
+ghost use Rattle.std.specs.Counts.{IsPrefixLen};
+
 use answers::Answer;
-use libc::{STDERR_FILENO, STDIN_FILENO, STDOUT_FILENO};
 use operation::Pass;
+use std::io;
+use std::io::Read;
 
 // The Path record Crate.
 const ROOT: [u8; 6] = [2, 0, 0, 0, 0x11, 0];
 
-// The line of a refusal; whether it was written.
-fn refuse(a: Answer) -> bool {
-    io::write_all(STDOUT_FILENO, b"refused ")
-        && io::print_decimal(STDOUT_FILENO, answers::number(a) as u64)
-        && io::write_all(STDOUT_FILENO, b" at ")
-        && io::print_decimal(STDOUT_FILENO, answers::value(a) as u64)
-        && io::write_all(STDOUT_FILENO, b"\n")
+// Reads until card is full, the input ends or a read fails, and answers how many bytes it put at the front of card.
+fn read_full(input: &mut impl Read, card: &mut [u8]) -> usize
+    ensures { IsPrefixLen result card.new }
+{
+    let mut done = 0;
+    while done < card.len() {
+        match input.read(&mut card[done..]) {
+            Ok(n) if 0 < n => done += n,
+            _ => break,
+        }
+    }
+    done
 }
 
-// The answer to a card; whether it was written.
-fn shorten(card: &[u8]) -> bool {
+// The line of a refusal.
+fn refuse(rt: &impl Print, a: Answer) -> io::Result<()> {
+    let number = answers::number(a);
+    let place = answers::value(a);
+    println!(rt; "refused {number} at {place}")
+}
+
+// The answer to a card.
+fn shorten(rt: &impl Print, card: &[u8]) -> io::Result<()> {
     let mut out = [0u8; 65536];
     let mut work = [0u32; 4096];
     let a = shortening::shorten(Pass::Upstream, card, &ROOT, &mut out, &mut work);
     match a {
-        Answer::Shortened(n) => io::write_all(STDOUT_FILENO, wire::part(&out, 0, n)),
-        _ => refuse(a),
+        Answer::Shortened(n) => rt.write_all(wire::part(&out, 0, n)),
+        _ => refuse(rt, a),
     }
 }
 
 // The answer to the first n bytes of an array that is not full, or to an array that is full; more is what reading one byte more gave.
-fn answer(card: &[u8], n: usize, more: isize) -> bool {
-    if more == 0 {
-        return shorten(wire::part(card, 0, n));
+fn answer(
+    rt: &(impl Print + Eprint),
+    card: &[u8],
+    n: usize,
+    more: io::Result<usize>,
+) -> io::Result<()> {
+    match more {
+        Ok(0) => shorten(rt, wire::part(card, 0, n)),
+        Ok(_) if n == card.len() => refuse(rt, Answer::LongCard),
+        _ => {
+            let _ = eprintln!(rt; "standard input can't be read");
+            Ok(())
+        }
     }
-    if 0 < more && n == card.len() {
-        return refuse(Answer::LongCard);
-    }
-    io::write_all(STDERR_FILENO, b"standard input can't be read\n");
-    true
 }
 
-fn main() {
+fn main(rt: HostRuntime) {
     let mut card = [0u8; 32768];
     let mut next = [0u8; 1];
-    let n = io::read_full(STDIN_FILENO, &mut card);
-    let more = libc::read(STDIN_FILENO, &mut next);
-    if !answer(&card, n, more) {
-        io::write_all(STDERR_FILENO, b"standard output can't be written\n");
+    let mut input = rt.reader();
+    let n = read_full(&mut input, &mut card);
+    let more = input.read(&mut next);
+    if answer(&rt, &card, n, more).is_err() {
+        let _ = eprintln!(rt; "standard output can't be written");
     }
 }

@@ -7,16 +7,16 @@ ghost use Rattle.std.specs.Prelude.{◌<◌};
 
 use answers::{Answer, Verdict};
 use chains::Want;
-use libc::STDOUT_FILENO;
 use operation::Shortening;
+use std::io;
 use test_text::Line;
 
-fn say(text: &[u8]) {
-    io::write_all(STDOUT_FILENO, text);
+fn say(rt: &impl Print, text: &[u8]) -> io::Result<()> {
+    rt.write_all(text)
 }
 
-fn say_number(n: usize) {
-    io::print_decimal(STDOUT_FILENO, n as u64);
+fn say_number(rt: &impl Print, n: usize) -> io::Result<()> {
+    rt.print(n)
 }
 
 // Word i of pair g: where its name stands, how long it is, or its base; 0 where there is no such pair.
@@ -38,30 +38,41 @@ fn name_of<'a>(card: &'a [u8], work: &[u32], g: usize) -> &'a [u8] {
 }
 
 // The base of pair g: the module's prefix, ::dafny_runtime, or a path's bytes. The lower half of its word is the path's place, 0 for the prefix.
-fn say_base(card: &[u8], root: &[u8], chain: &[usize], work: &[u32], g: usize) {
+fn say_base(
+    rt: &impl Print,
+    card: &[u8],
+    root: &[u8],
+    chain: &[usize],
+    work: &[u32],
+    g: usize,
+) -> io::Result<()> {
     let at = word_of(work, g, 2) % 65536;
     if at == 0 {
-        say(b"prefix\n");
-        return;
+        return say(rt, b"prefix\n");
     }
     let path = reader::record_at(card, at);
     if prefix::is_prefix(Shortening::Upstream, path, card, root, chain) {
-        say(b"prefix\n");
-        return;
+        return say(rt, b"prefix\n");
     }
     if paths::is_runtime(path) {
-        say(b"runtime\n");
-        return;
+        return say(rt, b"runtime\n");
     }
-    test_input::say_bytes(path);
-    say(b"\n");
+    test_input::say_bytes(rt, path)?;
+    say(rt, b"\n")
 }
 
-fn say_pair(card: &[u8], root: &[u8], chain: &[usize], work: &[u32], g: usize) {
-    say(b"pair ");
-    test_input::say_bytes(name_of(card, work, g));
-    say(b" ");
-    say_base(card, root, chain, work, g);
+fn say_pair(
+    rt: &impl Print,
+    card: &[u8],
+    root: &[u8],
+    chain: &[usize],
+    work: &[u32],
+    g: usize,
+) -> io::Result<()> {
+    say(rt, b"pair ")?;
+    test_input::say_bytes(rt, name_of(card, work, g))?;
+    say(rt, b" ")?;
+    say_base(rt, card, root, chain, work, g)
 }
 
 // Whether no pair ahead of pair g has its name.
@@ -82,33 +93,46 @@ fn is_first(card: &[u8], root: &[u8], chain: &[usize], work: &[u32], g: usize) -
 }
 
 // The base chosen for the name of pair g, where no pair ahead has it.
-fn say_choice(card: &[u8], root: &[u8], chain: &[usize], work: &[u32], g: usize) {
+fn say_choice(
+    rt: &impl Print,
+    card: &[u8],
+    root: &[u8],
+    chain: &[usize],
+    work: &[u32],
+    g: usize,
+) -> io::Result<()> {
     if !is_first(card, root, chain, work, g) {
-        return;
+        return Ok(());
     }
     let name = name_of(card, work, g);
-    say(b"chosen ");
-    test_input::say_bytes(name);
+    say(rt, b"chosen ")?;
+    test_input::say_bytes(rt, name)?;
     let number = comparing::number(Shortening::Upstream, name);
     let c = choosing::chosen(Shortening::Upstream, card, root, chain, work, name, number);
     if c == 0 {
-        say(b" none\n");
-        return;
+        return say(rt, b" none\n");
     }
-    say(b" ");
-    say_base(card, root, chain, work, c);
+    say(rt, b" ")?;
+    say_base(rt, card, root, chain, work, c)
 }
 
 // The use that pair g brings, if it brings one.
-fn say_use(card: &[u8], root: &[u8], chain: &[usize], work: &[u32], g: usize) {
+fn say_use(
+    rt: &impl Print,
+    card: &[u8],
+    root: &[u8],
+    chain: &[usize],
+    work: &[u32],
+    g: usize,
+) -> io::Result<()> {
     let c = choosing::use_of(Shortening::Upstream, card, root, chain, work, g);
     if c == 0 {
-        return;
+        return Ok(());
     }
-    say(b"use ");
-    test_input::say_bytes(name_of(card, work, g));
-    say(b" ");
-    say_base(card, root, chain, work, c);
+    say(rt, b"use ")?;
+    test_input::say_bytes(rt, name_of(card, work, g))?;
+    say(rt, b" ")?;
+    say_base(rt, card, root, chain, work, c)
 }
 
 // What is said of each pair in turn.
@@ -119,40 +143,57 @@ enum Said {
     Uses,
 }
 
-fn say_one(what: Said, card: &[u8], root: &[u8], chain: &[usize], work: &[u32], g: usize) {
+fn say_one(
+    rt: &impl Print,
+    what: Said,
+    card: &[u8],
+    root: &[u8],
+    chain: &[usize],
+    work: &[u32],
+    g: usize,
+) -> io::Result<()> {
     match what {
-        Said::Pairs => say_pair(card, root, chain, work, g),
-        Said::Choices => say_choice(card, root, chain, work, g),
-        Said::Uses => say_use(card, root, chain, work, g),
+        Said::Pairs => say_pair(rt, card, root, chain, work, g),
+        Said::Choices => say_choice(rt, card, root, chain, work, g),
+        Said::Uses => say_use(rt, card, root, chain, work, g),
     }
 }
 
-fn say_all(what: Said, card: &[u8], root: &[u8], chain: &[usize], work: &[u32], n: usize) {
+fn say_all(
+    rt: &impl Print,
+    what: Said,
+    card: &[u8],
+    root: &[u8],
+    chain: &[usize],
+    work: &[u32],
+    n: usize,
+) -> io::Result<()> {
     let mut g = 0;
     while g < n {
         g += 1;
-        say_one(what, card, root, chain, work, g);
+        say_one(rt, what, card, root, chain, work, g)?;
     }
+    Ok(())
 }
 
 // The pairs, the choices and the uses of a table, which lies in the first 2048 work words.
-fn say_table(card: &[u8], root: &[u8], work: &[u32], n: usize) {
+fn say_table(rt: &impl Print, card: &[u8], root: &[u8], work: &[u32], n: usize) -> io::Result<()> {
     if work.len() < 2048 {
-        return;
+        return Ok(());
     }
     let table = &work[..2048];
     let chain = [fields::name_place(card, 0)];
-    say_all(Said::Pairs, card, root, &chain, table, n);
-    say_all(Said::Choices, card, root, &chain, table, n);
-    say_all(Said::Uses, card, root, &chain, table, n);
-    say_number(n);
-    say(b" pairs\n");
+    say_all(rt, Said::Pairs, card, root, &chain, table, n)?;
+    say_all(rt, Said::Choices, card, root, &chain, table, n)?;
+    say_all(rt, Said::Uses, card, root, &chain, table, n)?;
+    say_number(rt, n)?;
+    say(rt, b" pairs\n")
 }
 
 // The table of a sound card's outermost module, in the first 2048 of so many words or more.
-fn collect_sound(card: &[u8], root: &[u8], work: &mut [u32]) {
+fn collect_sound(rt: &impl Print, card: &[u8], root: &[u8], work: &mut [u32]) -> io::Result<()> {
     if work.len() < 2048 {
-        return;
+        return Ok(());
     }
     let chain = [fields::name_place(card, 0)];
     let n = collecting::collect_module(
@@ -165,53 +206,58 @@ fn collect_sound(card: &[u8], root: &[u8], work: &mut [u32]) {
         &mut work[..2048],
     );
     if 512 < n {
-        test_input::say_refusal(Answer::FullTable(0));
-        return;
+        return test_input::say_refusal(rt, Answer::FullTable(0));
     }
-    say_table(card, root, work, n);
+    say_table(rt, card, root, work, n)
 }
 
 // A card's table, or its refusal.
-fn collect(card: &[u8], root: &[u8], work: &mut [u32]) {
+fn collect(rt: &impl Print, card: &[u8], root: &[u8], work: &mut [u32]) -> io::Result<()> {
     match admission::admit(card, root, work.len()) {
-        Verdict::Sound => collect_sound(card, root, work),
-        Verdict::Refused(a) => test_input::say_refusal(a),
+        Verdict::Sound => collect_sound(rt, card, root, work),
+        Verdict::Refused(a) => test_input::say_refusal(rt, a),
     }
 }
 
 // The same with so many of the work words lent, or all of them.
-fn lend(card: &[u8], root: &[u8], work: &mut [u32], words: usize) {
+fn lend(
+    rt: &impl Print,
+    card: &[u8],
+    root: &[u8],
+    work: &mut [u32],
+    words: usize,
+) -> io::Result<()> {
     if words < work.len() {
-        collect(card, root, &mut work[..words]);
-        return;
+        return collect(rt, card, root, &mut work[..words]);
     }
-    collect(card, root, work);
+    collect(rt, card, root, work)
 }
 
 // One case. What is longer than its buffer fills it, and a full buffer is past its limit.
-fn case(line: &[u8]) {
+fn case(rt: &impl Print, line: &[u8]) -> io::Result<()> {
     let mut root = [0u8; 300];
     let mut card = [0u8; 33000];
     let mut work = [0u32; 4096];
     let taken = test_text::take_apart(line, &mut root, &mut card);
     match taken {
-        Line::Case(n, m, words) => lend(&card[..m], &root[..n], &mut work, words),
-        Line::NoCase => test_input::no_case(),
+        Line::Case(n, m, words) => lend(rt, &card[..m], &root[..n], &mut work, words),
+        Line::NoCase => test_input::no_case(rt),
     }
 }
 
 // The lines of the text, one after the other.
-fn lines(text: &[u8]) {
+fn lines(rt: &impl Print, text: &[u8]) -> io::Result<()> {
     let mut i = 0;
     while i < text.len() {
         let line = test_text::line_at(text, i);
-        case(line);
+        case(rt, line)?;
         i += line.len() + 1;
     }
+    Ok(())
 }
 
-fn main() {
+fn main(rt: HostRuntime) -> io::Result<()> {
     let mut text = test_input::room();
-    let n = test_input::read_text(&mut text);
-    lines(&text[..n]);
+    let n = test_input::read_text(&rt, &mut text);
+    lines(&rt, &text[..n])
 }

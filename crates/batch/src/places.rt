@@ -112,7 +112,8 @@ fn is_same(
         || are_same(r, s) && wire::same(out, own) && memory::same_words(list, own_list)
 }
 
-// The same with as much lent.
+// The same with as much lent. Its rooms are no part of the caller's frame, which has large ones of its own.
+#[inline(never)]
 fn is_same_alone(
     pass: Pass,
     card: &[u8],

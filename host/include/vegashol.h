@@ -1,7 +1,7 @@
 /*
  * Shortens the long paths of a cue card, by proved code.
  *
- * Link with the static library of the crate `console`: `rt staticlib console` makes target/staticlib/libconsole.a.
+ * Link with the static library of the crate `console`: `rt lib` in its folder makes crates/console/out/libconsole.a.
  *
  * A card is a module tree in records, at most 32,768 bytes; a root is the path that its outermost module stands in, at most 256
  * bytes, such as VEGASHOL_CRATE. docs/FORMAT.md has the records. Any bytes get an answer.

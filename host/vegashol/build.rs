@@ -12,7 +12,7 @@ fn main() {
         // Others than this program look into it, from other folders.
         Some(folder) => absolute(folder).expect("a folder has a name"),
         None => Path::new(&env::var_os("CARGO_MANIFEST_DIR").expect("cargo sets it"))
-            .join("../../target/staticlib"),
+            .join("../../crates/console/out"),
     };
     let library = folder.join("libconsole.a");
     println!("cargo::rerun-if-changed={}", library.display());
@@ -22,7 +22,7 @@ fn main() {
                 "cargo::error=VEGASHOL_LIBRARY names no folder with the proved library: there is no {}",
                 library.display()
             ),
-            None => println!("cargo::error=the proved library is not built: run `rt staticlib console` in the root of the repository, then this again"),
+            None => println!("cargo::error=the proved library is not built: run `rt lib` in the folder crates/console of the repository, then this again"),
         }
         return;
     }

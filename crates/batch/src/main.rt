@@ -6,7 +6,7 @@
 #![tactic(auto)]
 
 mod memory;
-mod places;
+mod place_lists;
 
 ghost use Rattle.std.specs.Prelude.{◌≡◌, ◌≤◌, length};
 
@@ -259,7 +259,7 @@ fn list_case(
             bare_end,
         );
     }
-    places::lend(
+    place_lists::lend(
         rt,
         pass,
         wire::part(&card, 0, m),

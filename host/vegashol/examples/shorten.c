@@ -1,4 +1,4 @@
-/* Shortens the card on standard input. From host: cc -I include vegashol/examples/shorten.c ../target/staticlib/libconsole.a */
+/* Shortens the card on standard input. From host: cc -I include vegashol/examples/shorten.c ../crates/console/out/libconsole.a */
 #include "vegashol.h"
 #include <stdio.h>
 

@@ -2,24 +2,21 @@
 #![tactic(auto)]
 
 ghost use Rattle.std.specs.Prelude.{◌≡◌, ◌<◌};
-ghost use Rattle.prefix.specs.Prefix.{scope};
+ghost use Rattle.prefix.specs.Prefix.{scope_of};
 ghost use Rattle.chains.specs.Chains.{room};
 ghost use Rattle.adding.specs.Adds.{started, put_pair, table, added};
 ghost use Rattle.adding.specs.Settles.{put_again, settled};
 
-use chains::Want;
-use operation::Shortening;
+use chains::{Name, Want};
+use prefix::Scope;
 
 // An empty table: no bucket has a pair.
 pub fn start(work: &mut [u32])
     ensures { work.new ≡ started work.old }
 {
     let n = chains::room(work);
-    let mut i = 0;
-    while i < n {
-        let k = 4 * i + 3;
-        work[k] = 0;
-        i += 1;
+    for i in 0..n {
+        work[4 * i + 3] = 0;
     }
 }
 
@@ -41,39 +38,30 @@ fn put(work: &mut [u32], n: usize, b: usize, at: u32, len: u32, base: u32)
 }
 
 // The pair is put last among n pairs, if it is not there. The answer is how many pairs there are then; one more than the words have room for says
-// that the table is full, and stays. A name stands at a place that fits a half word.
-pub fn add(
-    op: Shortening,
-    card: &[u8],
-    root: &[u8],
-    chain: &[usize],
-    work: &mut [u32],
-    n: usize,
-    at: u32,
-    len: u32,
-    base: u16,
-) -> usize
+// that the table is full, and stays. Count and words are not one struct: of words lent in a struct that is handed on nothing is known after. A name stands at a place that fits a half word.
+pub fn add(scope: &Scope<'_>, work: &mut [u32], n: usize, at: u32, len: u32, base: u16) -> usize
     ensures { table result work.new
-        ≡ added (scope op card.now root.now chain.now) (table n work.old) at len base }
+        ≡ added (scope_of scope.now) (table n work.old) at len base }
 {
     let most = chains::room(work);
     if most < n {
         return n;
     }
     let place = wire::word(at) % 65536;
-    let name = wire::part(card, place, wire::word(len));
-    let number = comparing::number(op, name);
-    let b = chains::bucket(work, number);
-    let w = comparing::base_word(op, card, base);
+    let bytes = wire::part(scope.card, place, wire::word(len));
+    let number = comparing::number(scope.op, bytes);
+    let name = Name { bytes, number };
+    let b = chains::bucket(work, name.number);
+    let w = comparing::base_word(scope.op, scope.card, base);
     let first = chains::head(work, b);
     let want = Want::Based(w);
-    if 0 < seeking::seek(op, card, root, chain, work, first, name, number, want) {
+    if 0 < seeking::seek(scope, work, first, &name, want) {
         return n;
     }
     if n == most {
         return n + 1;
     }
-    let named = place + 65536 * number;
+    let named = place + 65536 * name.number;
     put(work, n, b, named as u32, len, w as u32);
     n + 1
 }
@@ -97,10 +85,7 @@ pub fn settle(work: &mut [u32])
     ensures { work.new ≡ settled work.old }
 {
     start(work);
-    let pairs = chains::room(work);
-    let mut i = 0;
-    while i < pairs {
+    for i in 0..chains::room(work) {
         put_again(work, i);
-        i += 1;
     }
 }

@@ -1,4 +1,5 @@
 -- What passes the two tests reads sound. Assumes nothing.
+use Rattle.std.specs.Prelude.{Ok}
 use mathlib.Core.Path.{◌≡◌, refl}
 use mathlib.Core.List.{[], ◌∷◌}
 use mathlib.Core.Bool.{true}
@@ -8,7 +9,6 @@ use lib.ListN.{length, drop, length-drop, drop_of_length-le}
 use lib.Seq.{take_all}
 use lib.Dec.{eqb, leb}
 use borrow.Author.Tests.{le-leb, leb-true, eqb-true}
-use Rattle.answers.specs.declared.Verdict.TheVariants.{Sound}
 use Rattle.wire.specs.Numbers.{Bytes}
 use Rattle.records.specs.Record.{length_of, kind_of, content_of, rest_of}
 use Rattle.records.specs.Kinds.{kinds, stands, these, row_of, content_at, mod', path}
@@ -21,8 +21,8 @@ use Rattle.admission.specs.Plain.{is_plain, is_extern}
 
 -- one record of a kind that stands there, with a content that reads sound, and nothing after it
 alone : (limit depth at from to : ℕ) (s : Bytes) → depth ≤ limit → 2 ≤ length_of s → length_of s + 4 ≡ length s → stands (kinds from to) (kind_of s) ≡ true
-    → ((n : ℕ) → read limit n (content_at (kinds from to) (kind_of s)) (depth + 1) (at + 6) (drop 6 s) ≡ Sound)
-    → (n : ℕ) → read limit n (these (kinds from to ∷ [])) depth at s ≡ Sound
+    → ((n : ℕ) → read limit n (content_at (kinds from to) (kind_of s)) (depth + 1) (at + 6) (drop 6 s) ≡ Ok tt)
+    → (n : ℕ) → read limit n (these (kinds from to ∷ [])) depth at s ≡ Ok tt
 unfolding read
 alone limit depth at from to s shallow two whole standing inner zero = refl
 alone limit depth at from to s shallow two whole standing inner (suc n) =
@@ -44,7 +44,7 @@ path-holds : (k : ℕ) → stands (kinds 0x10 0x12) k ≡ true → content_at pa
 unfolding content_at row_of
 path-holds = in-run (λ k. content_at path k ≡ these []) 0x10 2 (refl ⨾ refl ⨾ refl)
 
-plain-sound : (root : Bytes) → is_plain root ≡ true → reading 8 path root ≡ Sound
+plain-sound : (root : Bytes) → is_plain root ≡ true → reading 8 path root ≡ Ok tt
 unfolding reading
 plain-sound root h =
     let g = both _ (stands (kinds 0x10 0x12) (kind_of root)) h in
@@ -57,7 +57,7 @@ plain-sound root h =
     (rw (le-leb 0x10 (kind_of root) w.0, le-leb (kind_of root) 0x13 (omega arith)))
     (λ n. rw (path-holds (kind_of root) g.1, l) (read_done 8 n (these []) 2 6 [] refl)) (suc (length root))
 
-extern-sound : (card : Bytes) → is_extern card ≡ true → reading 48 mod' card ≡ Sound
+extern-sound : (card : Bytes) → is_extern card ≡ true → reading 48 mod' card ≡ Ok tt
 unfolding reading content_at row_of
 extern-sound card h =
     let a = both _ (eqb (kind_of (drop 6 card)) 0x01) h in
@@ -74,5 +74,5 @@ extern-sound card h =
     (λ n. rw kind (alone 48 2 6 0x01 0x01 (drop 6 card) (omega arith) (omega arith) (omega arith) (rw name refl)
     (λ m. rw name (read-bytes 48 m 3 12 (drop 6 (drop 6 card)))) n)) (suc (length card))
 
-pub both-sound : (card root : Bytes) → is_plain root ≡ true → is_extern card ≡ true → Sound ≡ root_then (reading 8 path root) (reading 48 mod' card)
+pub both-sound : (card root : Bytes) → is_plain root ≡ true → is_extern card ≡ true → (Ok tt) ≡ root_then (reading 8 path root) (reading 48 mod' card)
 both-sound card root p x = rw (plain-sound root p, extern-sound card x)

@@ -6,7 +6,7 @@ ghost use Rattle.rast.specs.Operation.{upstream};
 ghost use Rattle.outcome.specs.Outcome.{admitted};
 ghost use Rattle.admission.specs.Plain.{is_plain, is_extern};
 
-use answers::{Answer, Verdict};
+use answers::{Refusal, Verdict};
 
 // Whether a root is one record that holds nothing: Global, Crate or Self.
 fn is_plain(root: &[u8]) -> bool
@@ -51,18 +51,18 @@ pub fn admit(card: &[u8], root: &[u8], words: usize) -> Verdict
     ensures { result ≡ admitted upstream card.now root.now words }
 {
     if words < 2048 {
-        return Verdict::Refused(Answer::ShortWork);
+        return Err(Refusal::ShortWork);
     }
     if 32768 < card.len() {
-        return Verdict::Refused(Answer::LongCard);
+        return Err(Refusal::LongCard);
     }
     if 256 < root.len() {
-        return Verdict::Refused(Answer::BadRoot);
+        return Err(Refusal::BadRoot);
     }
     // No table of rows is made for these.
     if is_plain(root) {
         if is_extern(card) {
-            return Verdict::Sound;
+            return Ok(());
         }
     }
     reading::read_both(root, card)

@@ -1,13 +1,12 @@
-// The answers of document 01, "The console's answers", a case for each row of its table, and acceptance; and those that the requests of 02 add.
+// The answers of document 01, "The console's answers", and those that the requests of 02 add: the length of the output, or a refusal, a case for each row of
+// its table.
 #![tactic(auto)]
 
 ghost use Rattle.std.specs.Prelude.{◌≡◌};
 ghost use Rattle.answers.specs.Answers.{number as answers_number, value as answers_value, packed as answers_packed};
 
-#[derive(Clone, Copy)]
-pub enum Answer {
-    // with the output's length
-    Shortened(usize),
+#[derive(Clone, Copy, PartialEq, Eq)]
+pub enum Refusal {
     ShortWork,
     LongCard,
     BadRoot,
@@ -22,30 +21,29 @@ pub enum Answer {
     NoName(usize),
 }
 
+// Acceptance, with the output's length, or a refusal.
+pub type Answer = Result<usize, Refusal>;
+
 // What reading says of bytes; it refuses by ShortRecord, WrongKind, TooDeep, LeftOver and NoName alone.
-#[derive(Clone, Copy)]
-pub enum Verdict {
-    Sound,
-    Refused(Answer),
-}
+pub type Verdict = Result<(), Refusal>;
 
 // The number of an answer in 01's table; 0 is acceptance.
 pub fn number(a: Answer) -> usize
     ensures { result ≡ answers_number a }
 {
     match a {
-        Answer::Shortened(_) => 0,
-        Answer::ShortWork => 1,
-        Answer::LongCard => 2,
-        Answer::BadRoot => 3,
-        Answer::ShortRecord(_) => 4,
-        Answer::WrongKind(_) => 5,
-        Answer::TooDeep(_) => 6,
-        Answer::LeftOver(_) => 7,
-        Answer::FullTable(_) => 8,
-        Answer::NoSpace => 9,
-        Answer::ShortList => 10,
-        Answer::NoName(_) => 11,
+        Ok(_) => 0,
+        Err(Refusal::ShortWork) => 1,
+        Err(Refusal::LongCard) => 2,
+        Err(Refusal::BadRoot) => 3,
+        Err(Refusal::ShortRecord(_)) => 4,
+        Err(Refusal::WrongKind(_)) => 5,
+        Err(Refusal::TooDeep(_)) => 6,
+        Err(Refusal::LeftOver(_)) => 7,
+        Err(Refusal::FullTable(_)) => 8,
+        Err(Refusal::NoSpace) => 9,
+        Err(Refusal::ShortList) => 10,
+        Err(Refusal::NoName(_)) => 11,
     }
 }
 
@@ -54,18 +52,16 @@ pub fn value(a: Answer) -> usize
     ensures { result ≡ answers_value a }
 {
     match a {
-        Answer::Shortened(n) => n,
-        Answer::ShortWork => 0,
-        Answer::LongCard => 0,
-        Answer::BadRoot => 0,
-        Answer::ShortRecord(p) => p,
-        Answer::WrongKind(p) => p,
-        Answer::TooDeep(p) => p,
-        Answer::LeftOver(p) => p,
-        Answer::FullTable(p) => p,
-        Answer::NoSpace => 0,
-        Answer::ShortList => 0,
-        Answer::NoName(p) => p,
+        Ok(length) => length,
+        Err(Refusal::ShortWork | Refusal::LongCard | Refusal::BadRoot) => 0,
+        Err(Refusal::ShortRecord(place)) => place,
+        Err(Refusal::WrongKind(place)) => place,
+        Err(Refusal::TooDeep(place)) => place,
+        Err(Refusal::LeftOver(place)) => place,
+        Err(Refusal::FullTable(place)) => place,
+        Err(Refusal::NoSpace) => 0,
+        Err(Refusal::ShortList) => 0,
+        Err(Refusal::NoName(place)) => place,
     }
 }
 

@@ -1,4 +1,5 @@
-// Pairs in work words, four to a pair: where the name stands in the card, how long it is, the base, and a link. Pairs are numbered from 1; 0 is none.
+// Pairs in work words, four to a pair. A link is half a word, 0 for none, and is handed on so: as an Option it would be taken apart and put together at each step.
+// The words of a pair: where the name stands in the card, how long it is, the base, and a link. Pairs are numbered from 1; 0 is none.
 // Above a name's place stands the number of the name, which spares most comparisons of names. Pairs whose names' numbers are in the same bucket are
 // chained, the newest first: the lower half of a pair's fourth word is the number of the next one, the upper half that of the first pair of the bucket that has
 // this word's number.
@@ -52,6 +53,13 @@ pub fn next(work: &[u32], g: usize) -> usize
         return l;
     }
     0
+}
+
+// A name that is sought, and the number that it has.
+#[derive(Clone, Copy)]
+pub struct Name<'a> {
+    pub bytes: &'a [u8],
+    pub number: usize,
 }
 
 // What is sought of a pair beside its name.

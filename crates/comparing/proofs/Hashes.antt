@@ -1,6 +1,6 @@
 -- The hash, byte by byte and four bytes at once. Assumes nothing.
 use mathlib.Core.Path.{◌≡◌, sym, ap, ◌∙◌}
-use Prim.Native.Nat.{ℕ, suc, ◌+◌, ◌-◌, ◌/◌, ◌<◌, ◌≤◌}
+use Prim.Native.Nat.{ℕ, suc, ◌+◌, ◌-◌, ◌*◌, ◌/◌, ◌<◌, ◌≤◌}
 use native.Mathlib.Omega.{arith}
 use native.Mathlib.Numerals.{add-one}
 use lib.ListN.{length, take, drop, get_or, drop_of_length-le}
@@ -23,23 +23,25 @@ pub hash-few : (s : Bytes) (r : ℕ) → length s < 4 → r ≡ hash_few 0 s →
 unfolding hash_bytes
 hash-few s r l e = e ∙ rw (lt-ltb (length s) 4 l)
 
--- by fours: as many turns are left as bytes ahead of the last four ask for
-unfoldable pub Turns : Bytes → ℕ → ℕ
-Turns s at = (length s - 4 - at + 3) / 4
+-- by fours: i turns are done
+abbrev pub Turned : Bytes → ℕ → ℕ → ℕ
+Turned s i h = hash_fours s ((length s - 1) / 4 - i) (4 * i) h
 
-pub hash-start : (s : Bytes) → 4 ≤ length s → hash_bytes s ≡ hash_fours s (Turns s 0) 0 0
-unfolding hash_bytes Turns
-hash-start s l = rw (le-ltb (length s) 4 l) (ap (λ (n : ℕ). hash_fours s n 0 0) (let e : (length s - 1) / 4 ≡ (length s - 4 - 0 + 3) / 4 = omega arith in e))
+pub hash-start : (s : Bytes) → 4 ≤ length s → hash_bytes s ≡ Turned s 0 0
+unfolding hash_bytes
+hash-start s l = rw (le-ltb (length s) 4 l) (ap (λ (n : ℕ). hash_fours s n 0 0) (let e : (length s - 1) / 4 ≡ (length s - 1) / 4 - 0 = omega arith in e))
 
-module _ (s : Bytes) (h₀ h at x : ℕ) (f : h₀ ≡ hash_fours s (Turns s at) at h) where
-  pub hash-next : at < length s - 4 → x ≡ num (take 4 (drop at s)) → h₀ ≡ hash_fours s (Turns s (at + 4)) (at + 4) (mixed h x)
-  unfolding hash_fours Turns
+module _ (s : Bytes) (h₀ h i x : ℕ) (f : h₀ ≡ Turned s i h) where
+  pub hash-next : i < (length s - 1) / 4 → x ≡ num (take 4 (drop (4 * i) s)) → h₀ ≡ Turned s (i + 1) (mixed h x)
+  unfolding hash_fours
   hash-next l e =
-      f ∙ ap (λ (n : ℕ). hash_fours s n at h) (let k : (length s - 4 - at + 3) / 4 ≡ suc ((length s - 4 - (at + 4) + 3) / 4) = omega arith in k) ∙ rw e
+      let k : (length s - 1) / 4 - i ≡ suc ((length s - 1) / 4 - (i + 1)) = omega arith in
+      let j : 4 * (i + 1) ≡ 4 * i + 4 = omega arith in
+      rw (e, j) (f ∙ ap (λ (n : ℕ). hash_fours s n (4 * i) h) k)
 
-  pub hash-last : length s - 4 ≤ at → x ≡ num (take 4 (drop (length s - 4) s)) → mixed h x ≡ h₀
-  unfolding hash_fours Turns
-  hash-last l e = sym (f ∙ ap (λ (n : ℕ). hash_fours s n at h) (let k : (length s - 4 - at + 3) / 4 ≡ 0 = omega arith in k) ∙ rw e)
+  pub hash-last : (length s - 1) / 4 ≤ i → x ≡ num (take 4 (drop (length s - 4) s)) → mixed h x ≡ h₀
+  unfolding hash_fours
+  hash-last l e = sym (f ∙ ap (λ (n : ℕ). hash_fours s n (4 * i) h) (let k : (length s - 1) / 4 - i ≡ 0 = omega arith in k) ∙ rw e)
 
 -- a number fits a half word
 pub number_small : (op : Shortening) (s : Bytes) → number_of op s < 65536

@@ -4,10 +4,11 @@
 
 ghost use Rattle.std.specs.Prelude.{◌≡◌, ◌<◌, ◌^◌};
 ghost use Rattle.operation.specs.Operations.{operation_of, same_paths};
-ghost use Rattle.prefix.specs.Prefix.{scope};
+ghost use Rattle.prefix.specs.Prefix.{scope_of};
 ghost use Rattle.comparing.specs.Compares.{mixed, hash_few, hash_bytes, number_of, base_word, base_at, same_base};
 
 use operation::Shortening;
+use prefix::Scope;
 
 // A hash, and one more number of the sequence.
 fn mix(h: usize, x: usize) -> usize
@@ -21,11 +22,9 @@ fn mix(h: usize, x: usize) -> usize
 fn hash_few(s: &[u8]) -> usize
     ensures { (result ≡ hash_few 0 s.now) × (result < 2 ^ 32) }
 {
-    let mut h: usize = 0;
-    let mut i = 0;
-    while i < s.len() {
-        h = mix(h, wire::wide(s[i]));
-        i += 1;
+    let mut h = 0;
+    for b in s {
+        h = mix(h, usize::from(*b));
     }
     h
 }
@@ -38,14 +37,11 @@ fn hash_bytes(s: &[u8]) -> usize
     if n < 4 {
         return hash_few(s);
     }
-    let last = n - 4;
-    let mut h: usize = 0;
-    let mut at = 0;
-    while at < last {
-        h = mix(h, wire::four(s, at));
-        at += 4;
+    let mut h = 0;
+    for i in 0..(n - 1) / 4 {
+        h = mix(h, wire::four(s, 4 * i));
     }
-    mix(h, wire::four(s, last))
+    mix(h, wire::four(s, n - 4))
 }
 
 // The number of a name, under 65536: the same for names that are the same.
@@ -80,32 +76,18 @@ pub fn base_word(op: Shortening, card: &[u8], place: u16) -> usize
 }
 
 // Whether a path is the base at a place.
-pub fn is_base(
-    op: Shortening,
-    card: &[u8],
-    root: &[u8],
-    chain: &[usize],
-    place: usize,
-    path: &[u8],
-) -> bool
-    ensures { result ≡ same_paths op (base_at (scope op card.now root.now chain.now) place) path.now }
+pub fn is_base(scope: &Scope<'_>, place: usize, path: &[u8]) -> bool
+    ensures { result ≡ same_paths scope.now.op (base_at (scope_of scope.now) place) path.now }
 {
     if place != 0 {
-        return same_path(op, reader::record_at(card, place), path);
+        return same_path(scope.op, reader::record_at(scope.card, place), path);
     }
-    prefix::is_prefix(op, path, card, root, chain)
+    prefix::is_prefix(scope, path)
 }
 
 // Whether two words say the same base. The numbers above the places spare most comparisons of bytes.
-pub fn same_base(
-    op: Shortening,
-    card: &[u8],
-    root: &[u8],
-    chain: &[usize],
-    v: usize,
-    w: usize,
-) -> bool
-    ensures { result ≡ same_base (scope op card.now root.now chain.now) v w }
+pub fn same_base(scope: &Scope<'_>, v: usize, w: usize) -> bool
+    ensures { result ≡ same_base (scope_of scope.now) v w }
 {
     let a = v % 65536;
     let b = w % 65536;
@@ -113,13 +95,17 @@ pub fn same_base(
         if b == 0 {
             return true;
         }
-        return prefix::is_prefix(op, reader::record_at(card, b), card, root, chain);
+        return prefix::is_prefix(scope, reader::record_at(scope.card, b));
     }
     if b == 0 {
-        return prefix::is_prefix(op, reader::record_at(card, a), card, root, chain);
+        return prefix::is_prefix(scope, reader::record_at(scope.card, a));
     }
     if v / 65536 != w / 65536 {
         return false;
     }
-    same_path(op, reader::record_at(card, a), reader::record_at(card, b))
+    same_path(
+        scope.op,
+        reader::record_at(scope.card, a),
+        reader::record_at(scope.card, b),
+    )
 }

@@ -9,6 +9,8 @@ ghost use Rattle.packing.specs.PackedPlaces.{PackedPlacesAlone, PackedPlaces};
 
 use operation::Pass;
 
+// The calls are the C interface, so each has its own name: two that differ in the pass alone, too.
+
 // The operation that the Dafny text defines.
 #[unsafe(no_mangle)]
 pub extern "C" fn vegashol_shorten(card: &[u8], root: &[u8], out: &mut [u8]) -> u64

@@ -1,6 +1,6 @@
 -- Where a declaration's own name stands, case by case as the code asks. Assumes nothing.
 use mathlib.Core.Path.{◌≡◌, ap, ◌∙◌}
-use Prim.Native.Nat.{ℕ, ◌+◌, ◌-◌, ◌^◌, ◌<◌, ◌≤◌}
+use Prim.Native.Nat.{ℕ, ◌+◌, ◌^◌, ◌<◌, ◌≤◌}
 use native.Mathlib.Omega.{arith}
 use lib.ListN.{length, take, drop}
 use borrow.Author.Tests.{ne_eqb, lt-leb, le-leb, lt-ltb, le-ltb}
@@ -47,31 +47,40 @@ module _ (c it : Bytes) (k : ℕ) (e : it ≡ take (length c) (drop 6 c)) where
   unfolding name_at
   name-fn o h a = rw (h, ← at 3 o a.0)
 
-  module _ (t : k ≡ 0x68 → ⊥) (f : k ≡ 0x69 → ⊥) where
-    pub name-low : k < 0x62 → 0 ≡ name_at k c
-    unfolding name_at
-    name-low h = rw (ne_eqb k 0x62 (λ z. absurd (omega arith)), ne_eqb k 0x68 t, ne_eqb k 0x69 f, lt-leb 0x63 k (omega arith))
+  pub name-low : k < 0x62 → 0 ≡ name_at k c
+  unfolding name_at
+  name-low h =
+      rw (
+        ne_eqb k 0x62 (λ z. absurd (omega arith)),
+        ne_eqb k 0x68 (λ z. absurd (omega arith)),
+        ne_eqb k 0x69 (λ z. absurd (omega arith)),
+        lt-leb 0x63 k (omega arith),
+      )
 
-    pub name-high : 0x66 < k → 0 ≡ name_at k c
-    unfolding name_at
-    name-high h = rw (ne_eqb k 0x62 (λ z. absurd (omega arith)), ne_eqb k 0x68 t, ne_eqb k 0x69 f, le-leb 0x63 k (omega arith), lt-leb k 0x66 h)
+  pub name-high : 0x66 < k → (k ≡ 0x68 → ⊥) → (k ≡ 0x69 → ⊥) → 0 ≡ name_at k c
+  unfolding name_at
+  name-high h t f = rw (ne_eqb k 0x62 (λ z. absurd (omega arith)), ne_eqb k 0x68 t, ne_eqb k 0x69 f, le-leb 0x63 k (omega arith), lt-leb k 0x66 h)
 
-    pub name-third : (o : ℕ) → k ≤ 0x66 → 0x62 < k → (o ≡ offset_of 2 it) × (o < 2 ^ 40) → 6 + o ≡ name_at k c
-    unfolding name_at
-    name-third o h l a =
-        rw (ne_eqb k 0x62 (λ z. absurd (omega arith)), ne_eqb k 0x68 t, ne_eqb k 0x69 f, le-leb 0x63 k (omega arith), le-leb k 0x66 h, ← at 2 o a.0)
+  pub name-third : (o : ℕ) → k ≤ 0x66 → 0x62 < k → (o ≡ offset_of 2 it) × (o < 2 ^ 40) → 6 + o ≡ name_at k c
+  unfolding name_at
+  name-third o h l a =
+      rw (
+        ne_eqb k 0x62 (λ z. absurd (omega arith)),
+        ne_eqb k 0x68 (λ z. absurd (omega arith)),
+        ne_eqb k 0x69 (λ z. absurd (omega arith)),
+        le-leb 0x63 k (omega arith),
+        le-leb k 0x66 h,
+        ← at 2 o a.0,
+      )
 
-  module _ (l : 0x62 ≤ k) (h : k ≤ 0x62) (j : ℕ) (f : (j ≡ kind_of c) × (j < 65536)) where
-    is-module : k ≡ 0x62
-    is-module = omega arith
-
+  module _ (m : k ≡ 0x62) (j : ℕ) (f : (j ≡ kind_of c) × (j < 65536)) where
     pub name-extern : j ≡ 0x61 → 6 ≡ name_at k c
     unfolding name_at
-    name-extern g = rw (is-module, ← f.0, g)
+    name-extern g = rw (m, ← f.0, g)
 
     pub name-mod : (o : ℕ) → (j ≡ 0x61 → ⊥) → (o ≡ offset_of 2 it) × (o < 2 ^ 40) → 6 + o ≡ name_at k c
     unfolding name_at
-    name-mod o g a = rw (is-module, ← f.0, ne_eqb j 0x61 g, ← at 2 o a.0)
+    name-mod o g a = rw (m, ← f.0, ne_eqb j 0x61 g, ← at 2 o a.0)
 
 -- where a module's name stands
 module _ (card : Bytes) (at : ℕ) where

@@ -10,25 +10,13 @@ ghost use Rattle.fields.specs.Fields.{offset_of, trait_name_at, name_at, name_pl
 pub fn is_entered(k: usize, i: usize) -> bool
     ensures { result ≡ enters k i }
 {
-    if k == 0x37 {
-        return i < 1;
+    match k {
+        0x37 => i == 0,
+        0x70 => i != 4,
+        0x7A => i != 0,
+        0x2D | 0x5C | 0x62 | 0x6A => false,
+        _ => true,
     }
-    if k == 0x70 {
-        return i != 4;
-    }
-    if k == 0x7A {
-        return i != 0;
-    }
-    if k == 0x2D {
-        return false;
-    }
-    if k == 0x5C {
-        return false;
-    }
-    if k == 0x62 {
-        return false;
-    }
-    k != 0x6A
 }
 
 // Where record i of s starts.
@@ -37,10 +25,8 @@ fn offset_of(s: &[u8], i: usize) -> usize
     ensures { (result ≡ offset_of i s.now) × (result < 2 ^ 40) }
 {
     let mut o = 0;
-    let mut j = i;
-    while 0 < j {
+    for _ in 0..i {
         o += 4 + reader::record_length(wire::part(s, o, s.len()));
-        j -= 1;
     }
     o
 }
@@ -51,17 +37,14 @@ fn trait_name_at(s: &[u8], o: usize) -> usize
     ensures { (result ≡ trait_name_at o s.now) × (result < 2 ^ 41) }
 {
     let t = wire::part(s, o, s.len());
-    let j = reader::record_kind(t);
-    if j == 0x2C {
-        return o + 6;
+    match reader::record_kind(t) {
+        0x2C => o + 6,
+        0x2E => {
+            let base = reader::record_kind(wire::part(t, 6, t.len()));
+            if base == 0x2C { o + 12 } else { 0 }
+        }
+        _ => 0,
     }
-    if j != 0x2E {
-        return 0;
-    }
-    if reader::record_kind(wire::part(t, 6, t.len())) == 0x2C {
-        return o + 12;
-    }
-    0
 }
 
 // Where in the content s of a declaration of kind k the Text of its own name starts; 0 where it has none.
@@ -69,25 +52,20 @@ pub fn name_at(s: &[u8], k: usize) -> usize
     ensures { (result ≡ name_at k s.now) × (result < 2 ^ 41) }
 {
     let it = wire::part(s, 6, s.len());
-    if k == 0x68 {
-        return trait_name_at(s, 6 + offset_of(it, 3));
+    match k {
+        0x62 => {
+            let module = reader::record_kind(s);
+            if module == 0x61 {
+                6
+            } else {
+                6 + offset_of(it, 2)
+            }
+        }
+        0x63..=0x66 => 6 + offset_of(it, 2),
+        0x68 => trait_name_at(s, 6 + offset_of(it, 3)),
+        0x69 => 12 + offset_of(it, 3),
+        _ => 0,
     }
-    if k == 0x69 {
-        return 12 + offset_of(it, 3);
-    }
-    if k < 0x62 {
-        return 0;
-    }
-    if 0x66 < k {
-        return 0;
-    }
-    if 0x62 < k {
-        return 6 + offset_of(it, 2);
-    }
-    if reader::record_kind(s) == 0x61 {
-        return 6;
-    }
-    6 + offset_of(it, 2)
 }
 
 // Where the card has the Text of the name of the module at a place; 0 past its end.

@@ -4,12 +4,13 @@
 ghost use Rattle.std.specs.Prelude.{◌≡◌, ◌&&◌, ◌*◌, ◌/◌, ◌^◌, ◌<◌, ◌≤◌, eqb, leb, ltb};
 ghost use Rattle.size.specs.Bound.{times};
 ghost use Rattle.operation.specs.Operations.{operation_of};
-ghost use Rattle.prefix.specs.Prefix.{scope};
+ghost use Rattle.prefix.specs.Prefix.{scope_of};
 ghost use Rattle.chains.specs.Chains.{room};
 ghost use Rattle.adding.specs.Adds.{table};
 ghost use Rattle.fitting.specs.Fitting.{surely_fits, nested_few, use_most, uses_most, is_roomy};
 
 use operation::Shortening;
+use prefix::Scope;
 
 // Whether the output of a card of so many bytes surely has room in so many.
 fn is_wide(op: Shortening, card: usize, out: usize) -> bool
@@ -83,41 +84,30 @@ fn uses_most(card: &[u8], work: &[u32], n: usize) -> usize
     ensures { result ≡ uses_most card.now work.now n }
 {
     let mut sum: usize = 0;
-    let mut i = 0;
-    while i < n {
+    for i in 0..n {
         sum += use_most(card, work, i);
-        i += 1;
     }
     sum
 }
 
 // By the outermost module's table, which has so many pairs, where so many bytes are lent and what else can grow grows by so many.
-pub fn is_roomy(
-    op: Shortening,
-    card: &[u8],
-    root: &[u8],
-    chain: &[usize],
-    lent: usize,
-    work: &[u32],
-    pairs: usize,
-    grown: usize,
-) -> bool
-    ensures { result ≡ is_roomy (scope op card.now root.now chain.now) lent grown (table pairs work.now) }
+pub fn is_roomy(scope: &Scope<'_>, lent: usize, work: &[u32], pairs: usize, grown: usize) -> bool
+    ensures { result ≡ is_roomy (scope_of scope.now) lent grown (table pairs work.now) }
 {
     let most = chains::room(work);
     if most < pairs {
         return false;
     }
-    if lent < card.len() {
+    if lent < scope.card.len() {
         return false;
     }
-    let over = lent - card.len();
+    let over = lent - scope.card.len();
     if over < grown {
         return false;
     }
     let k = tables::own_words(work, pairs);
-    if over - grown < uses_most(card, &work[..k], pairs) {
+    if over - grown < uses_most(scope.card, &work[..k], pairs) {
         return false;
     }
-    has_few(card, most)
+    has_few(scope.card, most)
 }

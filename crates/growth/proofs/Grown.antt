@@ -1,11 +1,11 @@
 -- An output is no longer than its card, the outermost module's uses and what the card's paths can grow by. Assumes nothing.
+use Rattle.std.specs.Prelude.{Ok}
 use mathlib.Core.Path.{◌≡◌, refl, sym, ap, subst, ◌∙◌}
 use mathlib.Core.Bool.{Bool, true, false, or-true, or-false}
 use mathlib.Core.List.{[], ◌∷◌, append-nil}
 use Prim.Native.Nat.{ℕ, zero, suc, ◌+◌, ◌≤◌}
 use native.Mathlib.Omega.{arith}
 use lib.ListN.{length}
-use Rattle.answers.specs.declared.Verdict.TheVariants.{Sound}
 use Rattle.wire.specs.Numbers.{Bytes, AreBytes, between}
 use Rattle.wire.proofs.Slices.{tail-is}
 use Rattle.records.specs.Record.{Record, Records, node, nil, ◌▸◌, children, deep, deep_all, set_nth, map_all, encode, encode_all, tree, is, length_of}
@@ -136,7 +136,7 @@ module _ (op : Shortening) where
       rw e (omega arith)
 
   -- THE THEOREM: whatever the root, an output is no longer than its card that reads sound, what the card's paths can grow by and the outermost module's uses
-  pub card-grows : (root : Path) (card : Bytes) → AreBytes card → reading O.card_depth O.outermost card ≡ Sound → length card ≤ 65536
+  pub card-grows : (root : Path) (card : Bytes) → AreBytes card → reading O.card_depth O.outermost card ≡ Ok tt → length card ≤ 65536
       → length (encode (apply O root (tree card)))
       ≤ length card + card_growth op card + length (encode_all (imports O (tree card) (MSel root (name_of (tree card)))))
   unfolding apply card_growth

@@ -105,6 +105,7 @@ fn parts_growth(
     let mut uses = charged;
     let mut wraps = w;
     let mut deep = left;
+    // A while: a record is as long as it says, and the last of its parent is gone on with in the same loop.
     while at < to {
         let s = &card[at..to];
         if reader::is_short(s) {

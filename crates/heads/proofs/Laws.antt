@@ -1,7 +1,7 @@
 -- THE LAWS OF HEADS: a record whose head is laid before its content, or once that is there. Assumes nothing.
 use mathlib.Core.Path.{◌≡◌, ap, ◌∙◌}
-use mathlib.Core.List.{[], ◌∷◌, ◌++◌, append_assoc}
-use Prim.Native.Nat.{ℕ, ◌+◌, ◌-◌, ◌/◌, ◌%◌}
+use mathlib.Core.List.{◌++◌, append_assoc}
+use Prim.Native.Nat.{ℕ, ◌+◌, ◌-◌}
 use native.Mathlib.Omega.{arith}
 use lib.ListN.{length}
 use Rattle.wire.specs.Numbers.{Bytes, le}
@@ -10,13 +10,6 @@ use Rattle.records.proofs.Tree.{record-length}
 use Rattle.laying.specs.Lays.{lay, Laid}
 use Rattle.laying.proofs.Laws.{lay-behind, lay-ahead}
 use Rattle.heads.specs.Heads.{head_bytes}
-
--- the six bytes of a head
-pub lay-six : (out after : Bytes) (at n k : ℕ) (b : Bytes) → b ≡ (n % 256 ∷ n / 256 % 256 ∷ n / 256 / 256 % 256 ∷ n / 256 / 256 / 256 % 256 ∷ k % 256 ∷ k / 256
-    % 256 ∷ [])
-    → after ≡ lay out at b → after ≡ lay out at (head_bytes n k)
-unfolding le
-lay-six out after at n k b e f = f ∙ ap (lay out at) e
 
 -- a record whose head is laid once its content is
 pub laid-record : (out : Bytes) (at k : ℕ) (b : Bytes) (e : ℕ) (o₁ o₂ : Bytes)

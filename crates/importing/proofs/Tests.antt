@@ -1,7 +1,7 @@
 -- Which uses are laid, test by test, and in the loop. Assumes nothing.
 use mathlib.Core.Path.{◌≡◌, ap, subst, ◌∙◌}
 use mathlib.Core.List.{List}
-use Prim.Native.Nat.{ℕ, suc, ◌-◌, ◌<◌, ◌≤◌}
+use Prim.Native.Nat.{ℕ, suc, ◌+◌, ◌<◌, ◌≤◌}
 use native.Mathlib.Omega.{arith}
 use lib.ListN.{length}
 use borrow.Author.Tests.{lt-ltb, le-ltb}
@@ -29,22 +29,21 @@ module _ (s : Scope) (words : List ℕ) (n : ℕ) where
     unfolding imports_bytes
     imports-past out h = rw (le-ltb 65536 (length s.card) l, lt-ltb (room words) n (omega arith)) (laid_none out 0)
 
-    pub imports-all : (out : Bytes) (j p : ℕ) (o : Bytes) → n ≤ r → j ≤ 0
-        → Laid out 0 (weighed_uses (weight_bytes s.op) (uses_of s words 0 (n - j))) p o → Laid out 0 (imports_bytes s words n) p o
+    pub imports-all : (out : Bytes) (i p : ℕ) (o : Bytes) → n ≤ r → i ≡ n
+        → Laid out 0 (weighed_uses (weight_bytes s.op) (uses_of s words 0 i)) p o → Laid out 0 (imports_bytes s words n) p o
     unfolding imports_bytes
-    imports-all out j p o h z d =
-        let k : n - j ≡ n = omega arith in
+    imports-all out i p o h k d =
         rw (le-ltb 65536 (length s.card) l, le-ltb (room words) n (omega arith))
         (subst (λ (m : ℕ). Laid out 0 (weighed_uses (weight_bytes s.op) (uses_of s words 0 m)) p o) k d)
 
-  -- ahead of the loop, and in it: those of n - j pairs are laid
-  module _ (weight out : Bytes) where
-    pub loop-none : Laid out 0 (weighed_uses weight (uses_of s words 0 (n - n))) 0 out
-    unfolding uses_of weighed_uses
-    loop-none = let k : n - n ≡ 0 = omega arith in rw k (laid_none out 0)
+-- ahead of the loop, and in it: those of i pairs are laid
+module _ (s : Scope) (words : List ℕ) (weight out : Bytes) where
+  pub loop-none : Laid out 0 (weighed_uses weight (uses_of s words 0 0)) 0 out
+  unfolding uses_of weighed_uses
+  loop-none = laid_none out 0
 
-    pub loop-more : (j p : ℕ) (o₁ : Bytes) (e : ℕ) (o₂ : Bytes) → 0 < j → j ≤ n → Laid out 0 (weighed_uses weight (uses_of s words 0 (n - j))) p o₁
-        → Laid o₁ p (weighed_uses weight (uses_of s words (n - j) 1)) e o₂ → Laid out 0 (weighed_uses weight (uses_of s words 0 (n - (j - 1)))) e o₂
-    loop-more j p o₁ e o₂ z l x y =
-        let k : suc (n - j) ≡ n - (j - 1) = omega arith in
-        subst (λ (m : ℕ). Laid out 0 (weighed_uses weight (uses_of s words 0 m)) e o₂) k (all_more s words weight out (n - j) p o₁ e o₂ x y)
+  pub loop-more : (i p : ℕ) (o₁ : Bytes) (e : ℕ) (o₂ : Bytes) → Laid out 0 (weighed_uses weight (uses_of s words 0 i)) p o₁
+      → Laid o₁ p (weighed_uses weight (uses_of s words i 1)) e o₂ → Laid out 0 (weighed_uses weight (uses_of s words 0 (i + 1))) e o₂
+  loop-more i p o₁ e o₂ x y =
+      let k : suc i ≡ i + 1 = omega arith in
+      subst (λ (m : ℕ). Laid out 0 (weighed_uses weight (uses_of s words 0 m)) e o₂) k (all_more s words weight out i p o₁ e o₂ x y)

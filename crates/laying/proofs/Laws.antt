@@ -2,11 +2,13 @@
 use mathlib.Core.Path.{◌≡◌, refl, sym, ap, ◌∙◌}
 use mathlib.Core.List.{[], ◌∷◌, ◌++◌, append-nil}
 use Prim.Native.Nat.{ℕ, zero, suc, ◌+◌, ◌<◌, ◌≤◌, ◌-◌, min}
-use native.Mathlib.Nat.{zero-add, suc-add, le_of_suc-le-suc, not-suc-le-zero}
+use native.Mathlib.Nat.{zero-add, suc-add, sub-zero, suc-sub-suc, le_of_suc-le-suc, not-suc-le-zero}
 use native.Mathlib.Numerals.{add-one}
 use native.Mathlib.Omega.{arith, min_cases}
 use lib.ListN.{length, set, take, drop, replicate, length-append, length-drop, length-set, length-replicate}
-use lib.Seq.{drop-length, sets}
+use lib.Seq.{drop-length, sets, length-take-le}
+use borrow.Rule.Slice.PartMut.{put_mid}
+use Rattle.std.proofs.lemmas.List.{take-replicate}
 use Rattle.wire.specs.Numbers.{Bytes}
 use Rattle.laying.specs.Lays.{lay, Laid}
 
@@ -82,6 +84,35 @@ lay-whole [] [] h = refl
 lay-whole [] (y ∷ b) h = absurd (not-suc-le-zero h)
 lay-whole (x ∷ out) [] h = refl
 lay-whole (x ∷ out) (y ∷ b) h = ap (λ (l : Bytes). y ∷ l) (lay-whole out b (le_of_suc-le-suc h))
+
+-- what is written over a part of the buffer is laid there
+pub part-length : (out : Bytes) (at n : ℕ) → at + n ≤ length out → length (take (at + n - at) (drop at out)) ≡ n
+part-length out at n h = let d = length-drop at out in length-take-le (at + n - at) (drop at out) (omega arith) ∙ (let e : at + n - at ≡ n = omega arith in e)
+
+pub lay-mid : (out : Bytes) (at n : ℕ) (b : Bytes) → at + n ≤ length out → length b ≡ length (take (at + n - at) (drop at out))
+    → put_mid at (at + n - at) out b ≡ lay out at b
+lay-mid out at n b h l =
+    let d = length-drop at out in
+    let p = part-length out at n h in
+    let e : at + n - at ≡ length b = omega arith in
+    ap (λ (k : ℕ). take at out ++ (b ++ drop k (drop at out))) e
+    ∙ ap (λ (t : Bytes). take at out ++ t) (sym (lay-whole (drop at out) b (omega arith)))
+    ∙ part-inside out at b (omega arith)
+
+-- what reaches past the end may be left out
+pub lay-cut : (out : Bytes) (at : ℕ) (b : Bytes) → lay out at (take (length out - at) b) ≡ lay out at b
+unfolding lay
+lay-cut [] at b = refl
+lay-cut (x ∷ out) zero [] = rw (sub-zero (suc (length out))) refl
+lay-cut (x ∷ out) zero (y ∷ b) = rw (sub-zero (suc (length out))) (ap (λ (l : Bytes). y ∷ l) (rw (← sub-zero (length out)) (lay-cut out zero b)))
+lay-cut (x ∷ out) (suc at) b = rw (suc-sub-suc (length out) at) (ap (λ (l : Bytes). x ∷ l) (lay-cut out at b))
+
+-- so many zeros, as far as the buffer reaches
+pub lay-fill : (out : Bytes) (at n m : ℕ) → m ≡ min n (length out - at) → lay out at (replicate m 0) ≡ lay out at (replicate n 0)
+lay-fill out at n m e =
+    min_cases n (length out - at) (lay out at (replicate m 0) ≡ lay out at (replicate n 0))
+    (λ h f. ap (λ (k : ℕ). lay out at (replicate k 0)) (e ∙ f))
+    (λ h f. ap (lay out at) (ap (λ (k : ℕ). replicate k 0) (e ∙ f) ∙ sym (take-replicate (length out - at) n 0 h)) ∙ lay-cut out at (replicate n 0))
 
 pub laid_none : (out : Bytes) (at : ℕ) → Laid out at [] at out
 laid_none out at = record { ends = omega arith; bytes = sym (lay-nil out at) }

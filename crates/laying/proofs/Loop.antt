@@ -1,23 +1,15 @@
 -- The loop that lays bytes one by one, as far as the buffer reaches. Assumes nothing.
 use mathlib.Core.Path.{◌≡◌, refl, sym, ap, ◌∙◌}
-use mathlib.Core.List.{[], ◌∷◌, ◌++◌}
+use mathlib.Core.List.{[], ◌∷◌}
 use Prim.Native.Nat.{ℕ, zero, suc, ◌+◌, ◌-◌, ◌<◌, ◌≤◌, min}
-use native.Mathlib.Nat.{le_of_lt, le_of_suc-le-suc, sub-zero, suc-sub-suc}
+use native.Mathlib.Nat.{le_of_lt, le_of_suc-le-suc}
 use native.Mathlib.Numerals.{add-one}
 use native.Mathlib.Omega.{arith, min_cases}
 use lib.ListN.{length, set, take, drop, get_or, length-drop}
-use lib.Seq.{take-suc, take_all, take-add, drop-cons, length-take-le}
+use lib.Seq.{take-suc, take_all, take-add, length-take-le}
 use Rattle.wire.specs.Numbers.{Bytes}
 use Rattle.laying.specs.Lays.{lay}
-use Rattle.laying.proofs.Laws.{lay-nil, lay-length, lay-behind, lay-set}
-
--- what reaches past the end may be left out
-lay-cut : (out : Bytes) (at : ℕ) (b : Bytes) → lay out at (take (length out - at) b) ≡ lay out at b
-unfolding lay
-lay-cut [] at b = refl
-lay-cut (x ∷ out) zero [] = rw (sub-zero (suc (length out))) refl
-lay-cut (x ∷ out) zero (y ∷ b) = rw (sub-zero (suc (length out))) (ap (λ (l : Bytes). y ∷ l) (rw (← sub-zero (length out)) (lay-cut out zero b)))
-lay-cut (x ∷ out) (suc at) b = rw (suc-sub-suc (length out) at) (ap (λ (l : Bytes). x ∷ l) (lay-cut out at b))
+use Rattle.laying.proofs.Laws.{lay-nil, lay-length, lay-behind, lay-set, lay-cut}
 
 -- what is laid again, with more behind it
 lay-again : (out : Bytes) (at : ℕ) (a b : Bytes) → length a ≤ length b → lay (lay out at a) at b ≡ lay out at b
@@ -34,20 +26,6 @@ lay-more src out at i m h =
     ap (λ (p : ℕ). lay (lay out at (take i src)) (at + p) (take m (drop i src))) (sym (length-take-le i src h))
     ∙ lay-behind out at (take i src) (take m (drop i src))
     ∙ ap (lay out at) (sym (take-add i m src))
-
--- eight bytes, one by one
-front : (s : Bytes) (i j k : ℕ) → j ≡ i + 1 → i < length s → (l : Bytes) → l ≡ take k (drop j s) → (get_or s i 0 ∷ l) ≡ take (suc k) (drop i s)
-front s i j k e h l f =
-    ap (λ (x : Bytes). get_or s i 0 ∷ x) (f ∙ ap (λ (m : ℕ). take k (drop m s)) (e ∙ add-one i)) ∙ sym (ap (take (suc k)) (drop-cons s i 0 h))
-
-pub take-eight : (s : Bytes) (i : ℕ) → i + 8 ≤ length s
-    → (get_or s i 0 ∷ get_or s (i + 1) 0 ∷ get_or s (i + 2) 0 ∷ get_or s (i + 3) 0 ∷ get_or s (i + 4) 0 ∷ get_or s (i + 5) 0 ∷ get_or s (i + 6) 0 ∷ get_or s (i + 7) 0 ∷ [])
-    ≡ take 8 (drop i s)
-take-eight s i h =
-    front s i (i + 1) 7 refl (omega arith) _ (front s (i + 1) (i + 2) 6 (omega arith) (omega arith) _
-    (front s (i + 2) (i + 3) 5 (omega arith) (omega arith) _ (front s (i + 3) (i + 4) 4 (omega arith) (omega arith) _
-    (front s (i + 4) (i + 5) 3 (omega arith) (omega arith) _ (front s (i + 5) (i + 6) 2 (omega arith) (omega arith) _
-    (front s (i + 6) (i + 7) 1 (omega arith) (omega arith) _ (front s (i + 7) (i + 8) 0 (omega arith) (omega arith) [] refl)))))))
 
 -- out is out₀ with the first i of n bytes of src laid over it
 pub record Laying (src out₀ : Bytes) (at n : ℕ) (out : Bytes) (i : ℕ) : Type 0 where

@@ -47,12 +47,7 @@ fn count(c: &[u8]) -> usize
 fn more(c: &[u8], d: &[u8]) -> usize
     ensures { result ≡ length (parts_of d.now) - length (parts_of c.now) }
 {
-    let these = count(c);
-    let those = count(d);
-    if these < those {
-        return those - these;
-    }
-    0
+    count(d).saturating_sub(count(c))
 }
 
 // The first m records of d, which stand from an offset on, as uses; answers where they end in d.
@@ -63,11 +58,9 @@ fn list_uses(d: &[u8], m: usize, at: usize, list: &mut [u32], n: usize) -> usize
         × (list.new ≡ lay list.old (2 * n) (entry_words (uses_from at (take m (parts_of d.now))))) }
 {
     let mut i = 0;
-    let mut j = 0;
-    while j < m {
+    for j in 0..m {
         put(list, n + j, at + i, 3);
         i += 4 + reader::record_length(&d[i..]);
-        j += 1;
     }
     i
 }
@@ -127,18 +120,11 @@ fn list_module(r: &[u8], s: &[u8], at: usize, left: usize, list: &mut [u32], n: 
 fn mark(k: usize, j: usize) -> u32
     ensures { result ≡ cond (eqb k 0x2D && eqb j 0x37) 1 (cond (eqb k 0x5C && eqb j 0x42) 2 0) }
 {
-    if k == 0x2D {
-        if j == 0x37 {
-            return 1;
-        }
-        return 0;
+    match (k, j) {
+        (0x2D, 0x37) => 1,
+        (0x5C, 0x42) => 2,
+        _ => 0,
     }
-    if k == 0x5C {
-        if j == 0x42 {
-            return 2;
-        }
-    }
-    0
 }
 
 // A record beside another at an offset.

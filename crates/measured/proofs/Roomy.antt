@@ -1,4 +1,5 @@
 -- WHERE THERE SURELY IS ROOM by the outermost module's table, no table of an admitted card is full, and its output has room. Assumes nothing.
+use Rattle.std.specs.Prelude.{Ok}
 use mathlib.Core.Path.{◌≡◌, refl, ap, sym, ◌∙◌}
 use mathlib.Core.Bool.{true, false, ◌&&◌, and-eq-true_iff, false≢true}
 use mathlib.Core.Option.{none}
@@ -7,7 +8,6 @@ use native.Mathlib.Omega.{arith}
 use lib.ListN.{length, get_or}
 use lib.Dec.{eqb, leb, ltb}
 use borrow.Author.Tests.{leb-true, ltb-false}
-use Rattle.answers.specs.declared.Verdict.TheVariants.{Sound}
 use Rattle.wire.specs.Numbers.{Bytes}
 use Rattle.wire.proofs.Numbers.{are-bytes}
 use Rattle.records.specs.Record.{Record, Records, leaf, node, nil, ◌▸◌, encode, encode_all, content_of, rest_of, kind_of, tree, deep, is}
@@ -65,7 +65,7 @@ unfolding deep
 deep-suc (leaf k b) = omega arith
 deep-suc (node k c) = omega arith
 
-module _ (op : Shortening) (card root : Bytes) (n : ℕ) (sound : admitted (operation_of op) card root n ≡ Sound)
+module _ (op : Shortening) (card root : Bytes) (n : ℕ) (sound : admitted (operation_of op) card root n ≡ Ok tt)
     (bc : (i : ℕ) → get_or card i 0 < 256) (br : (i : ℕ) → get_or root i 0 < 256) where
   reads : Reads card root (operation_of op).root_depth
   reads = admitted-reads op card root n sound bc br

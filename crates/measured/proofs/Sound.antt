@@ -1,5 +1,7 @@
 -- THE RESULT over a sound card, whatever the out buffer and the words hold: the place of the first full table, or the length of the text's output; and where
 -- the out buffer has room for that, its first bytes are exactly the output's and all others are as they were. Assumes nothing.
+use Rattle.std.specs.Prelude.{Ok, Err}
+use Rattle.answers.specs.declared.Refusal.TheVariants.{FullTable}
 use mathlib.Core.Path.{◌≡◌, refl, ap, ◌∙◌}
 use mathlib.Core.Bool.{true, cond, and-eq-true_iff}
 use mathlib.Core.List.{List, [], ◌++◌}
@@ -9,7 +11,6 @@ use native.Mathlib.Omega.{arith}
 use lib.ListN.{length, drop, get_or}
 use lib.Dec.{leb, ltb}
 use borrow.Author.Tests.{lt-ltb, le-ltb, ltb-false, leb-true}
-use Rattle.answers.specs.declared.Verdict.TheVariants.{Sound}
 use Rattle.wire.specs.Numbers.{Bytes}
 use Rattle.wire.proofs.Numbers.{are-bytes}
 use Rattle.records.specs.Record.{encode, tree, deep}
@@ -35,13 +36,12 @@ use Rattle.laying.proofs.Laws.{lay-whole}
 use Rattle.modules.specs.Modules.{module_made, card_made}
 use Rattle.modules.proofs.Keeps.{table-length}
 use Rattle.modules.proofs.Outermost.{Outermost, Own, admitted-reads, outermost-is, outermost-again, collected-own}
-use Rattle.measuring.specs.declared.Written.TheVariants.{Full, Length}
 use Rattle.growth.specs.Grows.{card_growth}
 use Rattle.fitting.specs.Fitting.{surely_fits, is_roomy}
 use Rattle.measuring.specs.Measured.{Output, output, first_made, written, direct, in_two, outermost, collected, whole_output}
 use Rattle.measured.proofs.Roomy.{roomy-none, roomy-fits}
 
-module _ (op : Shortening) (card root : Bytes) (n : ℕ) (sound : admitted (operation_of op) card root n ≡ Sound)
+module _ (op : Shortening) (card root : Bytes) (n : ℕ) (sound : admitted (operation_of op) card root n ≡ Ok tt)
     (bc : (i : ℕ) → get_or card i 0 < 256) (br : (i : ℕ) → get_or root i 0 < 256) where
   -- the first table with more than so many pairs
   abbrev pub FullAt : ℕ → Option ℕ
@@ -73,7 +73,7 @@ module _ (op : Shortening) (card root : Bytes) (n : ℕ) (sound : admitted (oper
   OutAfter most out = whether (FullAt most) (cond (ltb (length out) (length Bytes')) out (Bytes' ++ drop (length Bytes') out)) (λ place. out)
 
   pub record Result (words : List ℕ) (out : Bytes) (o : Output) : Type 0 where
-    pub answer-is : o.answer ≡ whether (FullAt (room words)) (Length (length Bytes')) Full
+    pub answer-is : o.answer ≡ whether (FullAt (room words)) (Ok (length Bytes')) (λ place. Err (FullTable place))
     pub out-is : o.out ≡ OutAfter (room words) out
     pub words_long : length o.words ≡ length words
 

@@ -3,9 +3,12 @@ use mathlib.Core.Path.{◌≡◌, refl, ap, ap₂, sym, ◌∙◌}
 use mathlib.Core.Bool.{Bool, true, false, not, and-eq-true_iff}
 use mathlib.Core.List.{List, [], ◌∷◌, ◌++◌}
 use Prim.Native.Nat.{ℕ, ◌+◌, ◌-◌, ◌<◌, ◌≤◌}
+use native.Mathlib.Omega.{arith}
 use lib.ListN.{length, drop}
 use lib.Dec.{eqb, leb, ltb}
 use borrow.Author.Tests.{lt-ltb, le-ltb, lt-leb, le-leb, leb-true}
+use Rattle.answers.specs.declared.Refusal.TheVariants.{FullTable}
+use Rattle.std.specs.Prelude.{Ok, Err}
 use Rattle.wire.specs.Numbers.{Bytes}
 use Rattle.wire.proofs.Slices.{tail-is}
 use Rattle.records.specs.Record.{kind_of}
@@ -19,7 +22,6 @@ use Rattle.tables.specs.Tables.{table_of}
 use Rattle.laying.specs.Lays.{lay}
 use Rattle.modules.specs.Modules.{Made, made, module_made, card_made}
 use Rattle.writing.specs.Wrote.{Wrote}
-use Rattle.measuring.specs.declared.Written.TheVariants.{Full, Length}
 use Rattle.growth.specs.Grows.{card_growth}
 use Rattle.fitting.specs.Fitting.{surely_fits, is_roomy}
 use Rattle.measuring.specs.Measured.{stays_whole, Output, output, first_made, written, direct, in_two, outermost, collected, whole_output}
@@ -50,7 +52,7 @@ module _ (card : Bytes) where
         let l = leb-true (length card) 65536 tests.0 in
         rw (le-ltb 65536 (length card) l, tail-is card 0, tests.1)
 
-    pub direct-whole : (out : Bytes) {after : Bytes} → after ≡ lay out 0 card → output (Length (length card)) after held.words ≡ direct op card root owner held out
+    pub direct-whole : (out : Bytes) {after : Bytes} → after ≡ lay out 0 card → output (Ok (length card)) after held.words ≡ direct op card root owner held out
     unfolding direct first_made
     direct-whole out x = rw (x, made-whole)
 
@@ -63,13 +65,18 @@ module _ (op : Shortening) (card root : Bytes) (owner₀ : ℕ) (held₀ : Table
   held : words₁ ≡ M.held.words
   held = ap (λ (t : Table). t.words) w.held-is
 
-  pub direct-full : 0 < full → output (Full (full - 1)) after words₁ ≡ direct op card root owner₀ held₀ out
+  pub direct-full : {place : ℕ} → full ≡ place + 1 → output (Err (FullTable place)) after words₁ ≡ direct op card root owner₀ held₀ out
   unfolding direct first_made
-  direct-full h = rw (held, w.laid, w.full_is) (rw (lt-ltb 0 M.full (rw w.full_is at h)))
+  direct-full {place} e =
+      let q : M.full ≡ place + 1 = sym w.full_is ∙ e in
+      let z : place + 1 - 1 ≡ place = omega arith in
+      rw (held, w.laid, q, lt-ltb 0 (place + 1) (omega arith), z)
 
-  pub direct-gives : full ≤ 0 → output (Length len) after words₁ ≡ direct op card root owner₀ held₀ out
+  pub direct-gives : full ≡ 0 → output (Ok len) after words₁ ≡ direct op card root owner₀ held₀ out
   unfolding direct first_made
-  direct-gives h = rw (held, w.laid, w.length-is) (rw (le-ltb 0 M.full (rw w.full_is at h)))
+  direct-gives e =
+      let q : M.full ≡ 0 = sym w.full_is ∙ e in
+      rw (held, w.laid, w.length-is, q)
 
 -- measured first
 module _ (op : Shortening) (card root : Bytes) (owner₀ : ℕ) (held₀ : Table) (out : Bytes) {part : Bytes} {words₁ : List ℕ} {len full owner pairs : ℕ}
@@ -94,15 +101,18 @@ module _ (op : Shortening) (card root : Bytes) (owner₀ : ℕ) (held₀ : Table
   unfolding written first_made
   again = ap₂ (card_made op card root) w.owner-is w.held-is
 
-  pub full-gives : 0 < full → output (Full (full - 1)) (part ++ drop 0 out) words₁ ≡ in_two op card root owner₀ held₀ out
+  pub full-gives : {place : ℕ} → full ≡ place + 1 → output (Err (FullTable place)) (part ++ drop 0 out) words₁ ≡ in_two op card root owner₀ held₀ out
   unfolding in_two
-  full-gives h = rw (same_out, is-words, is-full) (rw (lt-ltb 0 (first_made op card root owner₀ held₀).full (rw is-full at h)))
+  full-gives {place} e =
+      let q : (first_made op card root owner₀ held₀).full ≡ place + 1 = sym is-full ∙ e in
+      let z : place + 1 - 1 ≡ place = omega arith in
+      rw (same_out, is-words, q, lt-ltb 0 (place + 1) (omega arith), z)
 
-  module _ (z : full ≤ 0) where
+  module _ (e : full ≡ 0) where
     none-full : ltb 0 (first_made op card root owner₀ held₀).full ≡ false
-    none-full = le-ltb 0 (first_made op card root owner₀ held₀).full (rw is-full at z)
+    none-full = let q : (first_made op card root owner₀ held₀).full ≡ 0 = sym is-full ∙ e in rw q
 
-    pub no-room-gives : length (part ++ drop 0 out) < len → output (Length len) (part ++ drop 0 out) words₁ ≡ in_two op card root owner₀ held₀ out
+    pub no-room-gives : length (part ++ drop 0 out) < len → output (Ok len) (part ++ drop 0 out) words₁ ≡ in_two op card root owner₀ held₀ out
     unfolding in_two
     no-room-gives h =
         rw (same_out, is-words, is-length)
@@ -110,7 +120,7 @@ module _ (op : Shortening) (card root : Bytes) (owner₀ : ℕ) (held₀ : Table
 
     pub room-gives : len ≤ length (part ++ drop 0 out) → {after : Bytes} {words₂ : List ℕ} {len₂ full₂ owner₂ pairs₂ : ℕ}
         → Wrote (part ++ drop 0 out) after words₂ len₂ full₂ owner₂ pairs₂ (card_made op card root owner (table pairs words₁))
-        → output (Length len) after words₂ ≡ in_two op card root owner₀ held₀ out
+        → output (Ok len) after words₂ ≡ in_two op card root owner₀ held₀ out
     unfolding in_two
     room-gives h x =
         rw (x.laid, same_out, ap (λ (t : Table). t.words) x.held-is, again, is-length)

@@ -1,5 +1,8 @@
 -- The output is measured before a byte of it is written (01, "The console's answers": 8 and 9 leave the out buffer), unless it surely has room, and every table
 -- too, as it has over a sound card where `surely_fits` or `is_roomy` say so. Assumes nothing: these are definitions.
+use Rattle.answers.specs.Answers.{Answer}
+use Rattle.answers.specs.declared.Refusal.TheVariants.{FullTable}
+use Rattle.std.specs.Prelude.{Ok, Err}
 use Rattle.std.specs.Prelude.{Bool, not, ◌&&◌, cond, List, [], ◌∷◌, ℕ, ◌-◌, length, eqb, leb, ltb}
 use Rattle.wire.specs.Numbers.{Bytes}
 use Rattle.records.specs.Record.{kind_of}
@@ -12,16 +15,14 @@ use Rattle.laying.specs.Lays.{lay}
 use Rattle.modules.specs.Modules.{Made, card_made}
 use Rattle.growth.specs.Grows.{card_growth}
 use Rattle.fitting.specs.Fitting.{surely_fits, is_roomy}
-use Rattle.measuring.specs.declared.Written.{Written}
-use Rattle.measuring.specs.declared.Written.TheVariants.{Full, Length}
 
 -- what is answered, and what the out buffer and the words then hold
 pub record Output : Type 0 where
-  pub answer : Written
+  pub answer : Answer
   pub out : Bytes
   pub words : List ℕ
 
-abbrev pub output : Written → Bytes → List ℕ → Output
+abbrev pub output : Answer → Bytes → List ℕ → Output
 output answer out words = record { answer = answer; out = out; words = words }
 
 -- whether a card stays as it is: it is no longer than places reach, and its record is no Mod
@@ -41,8 +42,8 @@ module _ (op : Shortening) (card root : Bytes) where
   unfoldable pub direct : ℕ → Table → Bytes → Output
   direct owner held out =
       let m : Made = first_made owner held in
-      cond (ltb 0 m.full) (output (Full (m.full - 1)) (lay out 0 m.bytes) m.held.words)
-      (output (Length (length m.bytes)) (lay out 0 m.bytes) m.held.words)
+      cond (ltb 0 m.full) (output (Err (FullTable (m.full - 1))) (lay out 0 m.bytes) m.held.words)
+      (output (Ok (length m.bytes)) (lay out 0 m.bytes) m.held.words)
 
   -- measured, and then written where there is room
   unfoldable pub in_two : ℕ → Table → Bytes → Output
@@ -50,8 +51,8 @@ module _ (op : Shortening) (card root : Bytes) where
       let m : Made = first_made owner held in
       let w : Made = written owner held in
       let n : ℕ = length m.bytes in
-      cond (ltb 0 m.full) (output (Full (m.full - 1)) out m.held.words)
-      (cond (ltb (length out) n) (output (Length n) out m.held.words) (output (Length n) (lay out 0 w.bytes) w.held.words))
+      cond (ltb 0 m.full) (output (Err (FullTable (m.full - 1))) out m.held.words)
+      (cond (ltb (length out) n) (output (Ok n) out m.held.words) (output (Ok n) (lay out 0 w.bytes) w.held.words))
 
   -- the outermost module, and its table
   abbrev pub outermost : Scope

@@ -1,20 +1,15 @@
 // The output is written at once where it surely has room. Else it is measured first, by the walk that writes it, over an empty part of the out buffer: a refusal
-// leaves the buffer.
+// leaves the buffer. What is answered is how long the output is, written or not, or the place of the first module whose table is full.
 #![tactic(auto)]
 
 ghost use Rattle.std.specs.Prelude.{◌≡◌};
 ghost use Rattle.adding.specs.Adds.{table};
 ghost use Rattle.measuring.specs.Measured.{stays_whole, output, direct, in_two, whole_output};
 
+use answers::{Answer, Refusal};
 use operation::Shortening;
-
-#[derive(Clone, Copy)]
-pub enum Written {
-    // the place of the first module whose table is full
-    Full(usize),
-    // how long the output is, written or not
-    Length(usize),
-}
+use prefix::Scope;
+use tables::Held;
 
 // Whether a card stays as it is: its places fit a half word, and its record is no Mod.
 fn stays_whole(card: &[u8]) -> bool
@@ -33,22 +28,20 @@ fn write_at_once(
     root: &[u8],
     out: &mut [u8],
     work: &mut [u32],
-    owner: usize,
-    pairs: usize,
-) -> Written
+    held: Held,
+) -> Answer
     ensures { output result out.new work.new
-        ≡ direct op card.now root.now owner (table pairs work.old) out.old }
+        ≡ direct op card.now root.now held.owner (table held.pairs work.old) out.old }
 {
     if stays_whole(card) {
         laying::lay(card, out, 0);
-        return Written::Length(card.len());
+        return Ok(card.len());
     }
-    let w = writing::write_card(op, card, root, out, work, owner, pairs);
-    let place = w.full;
-    if 0 < place {
-        return Written::Full(place - 1);
+    let w = writing::write_card(op, card, root, out, work, held);
+    if let Some(place) = w.full {
+        return Err(Refusal::FullTable(place));
     }
-    Written::Length(w.length)
+    Ok(w.length)
 }
 
 // A card without nested modules is still collected once: the words hold its table when it is written.
@@ -58,39 +51,46 @@ fn measure_first(
     root: &[u8],
     out: &mut [u8],
     work: &mut [u32],
-    owner: usize,
-    pairs: usize,
-) -> Written
+    held: Held,
+) -> Answer
     ensures { output result out.new work.new
-        ≡ in_two op card.now root.now owner (table pairs work.old) out.old }
+        ≡ in_two op card.now root.now held.owner (table held.pairs work.old) out.old }
 {
-    let m = writing::write_card(op, card, root, &mut out[..0], work, owner, pairs);
-    let full = m.full;
-    if 0 < full {
-        return Written::Full(full - 1);
+    let m = writing::write_card(op, card, root, &mut out[..0], work, held);
+    if let Some(place) = m.full {
+        return Err(Refusal::FullTable(place));
     }
     let n = m.length;
     if out.len() < n {
-        return Written::Length(n);
+        return Ok(n);
     }
-    writing::write_card(op, card, root, out, work, m.owner, m.pairs);
-    Written::Length(n)
+    writing::write_card(op, card, root, out, work, m.held);
+    Ok(n)
 }
 
 // The outermost module's table is collected first: its uses are then known, and whether the output surely has room. The same walk adds up what else can grow.
-pub fn write(op: Shortening, card: &[u8], root: &[u8], out: &mut [u8], work: &mut [u32]) -> Written
+pub fn write(op: Shortening, card: &[u8], root: &[u8], out: &mut [u8], work: &mut [u32]) -> Answer
     ensures { output result out.new work.new
         ≡ whole_output op card.now root.now work.old out.old }
 {
     if fitting::surely_fits(op, card, out, work) {
-        return write_at_once(op, card, root, out, work, 65537, 0);
+        return write_at_once(op, card, root, out, work, tables::NONE);
     }
     let chain: [usize; 1] = [fields::name_place(card, 0)];
-    let mine = surveying::survey_card(op, card, root, &chain, work);
-    let pairs = mine.pairs;
-    tables::settle(work, pairs);
-    if fitting::is_roomy(op, card, root, &chain, out.len(), work, pairs, mine.grown) {
-        return write_at_once(op, card, root, out, work, 0, pairs);
+    let scope = Scope {
+        op,
+        card,
+        root,
+        chain: &chain,
+    };
+    let mine = surveying::survey_card(&scope, work);
+    tables::settle(work, mine.pairs);
+    let held = Held {
+        owner: 0,
+        pairs: mine.pairs,
+    };
+    if fitting::is_roomy(&scope, out.len(), work, mine.pairs, mine.grown) {
+        return write_at_once(op, card, root, out, work, held);
     }
-    measure_first(op, card, root, out, work, 0, pairs)
+    measure_first(op, card, root, out, work, held)
 }

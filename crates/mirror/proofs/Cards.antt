@@ -1,9 +1,9 @@
 -- Nothing is missed: the theorem speaks of every card and every root, and these are exactly the module trees and the paths that are without nameless paths, have room
 -- in their bytes and are not too deep. Assumes nothing.
+use Rattle.std.specs.Prelude.{Ok}
 use mathlib.Core.Path.{◌≡◌, refl, sym, ap, subst, ◌∙◌}
 use mathlib.Core.Bool.{true}
 use Prim.Native.Nat.{ℕ, ◌≤◌}
-use Rattle.answers.specs.declared.Verdict.TheVariants.{Sound}
 use Rattle.wire.specs.Numbers.{Bytes, AreBytes}
 use Rattle.records.specs.Record.{Record, encode, tree, deep}
 use Rattle.records.specs.Kinds.{mod', path}
@@ -36,7 +36,7 @@ pub record ModuleOf (limit : ℕ) (card : Bytes) : Type 0 where
   pub shallow : deep (Mod_tree m) ≤ limit
 
 -- every sound card, whatever the limit of depth, is the record tree of just one module tree, without nameless paths
-pub every-card : (limit : ℕ) (card : Bytes) → AreBytes card → reading limit mod' card ≡ Sound → ModuleOf limit card
+pub every-card : (limit : ℕ) (card : Bytes) → AreBytes card → reading limit mod' card ≡ Ok tt → ModuleOf limit card
 every-card limit card b s =
     let h : ReadsAs limit mod' card (tree card) = sound-reads limit mod' card b s in
     let t : (m : Mod) × (Mod_tree m ≡ tree card) = every-tree (tree card) h.fits in
@@ -52,10 +52,10 @@ every-card limit card b s =
 
 -- and every such module tree is a sound card
 pub card-of : (limit : ℕ) (m : Mod) → named (Mod_tree m) ≡ true → Canonical (Mod_tree m) → deep (Mod_tree m) ≤ limit
-    → reading limit mod' (encode (Mod_tree m)) ≡ Sound
+    → reading limit mod' (encode (Mod_tree m)) ≡ Ok tt
 card-of limit m n = fits-sound limit mod' (Mod_tree m) (allowed-fits (Mod_tree m) mod' refl (Mod_allowed m) n)
 
-pub module-reads : (limit : ℕ) (card : Bytes) → ModuleOf limit card → reading limit mod' card ≡ Sound
+pub module-reads : (limit : ℕ) (card : Bytes) → ModuleOf limit card → reading limit mod' card ≡ Ok tt
 module-reads limit card h = ap (reading limit mod') h.is-card ∙ card-of limit h.m h.is-named h.canonical h.shallow
 
 -- the path of a root, likewise
@@ -68,7 +68,7 @@ pub record PathOf (limit : ℕ) (root : Bytes) : Type 0 where
   pub canonical : Canonical (Path_tree p)
   pub shallow : deep (Path_tree p) ≤ limit
 
-pub every-root : (limit : ℕ) (root : Bytes) → AreBytes root → reading limit path root ≡ Sound → PathOf limit root
+pub every-root : (limit : ℕ) (root : Bytes) → AreBytes root → reading limit path root ≡ Ok tt → PathOf limit root
 every-root limit root b s =
     let h : ReadsAs limit path root (tree root) = sound-reads limit path root b s in
     let t : (p : Path) × (Path_tree p ≡ tree root) = every-path (tree root) h.fits in
@@ -83,14 +83,14 @@ every-root limit root b s =
     }
 
 pub root-of : (limit : ℕ) (p : Path) → named (Path_tree p) ≡ true → Canonical (Path_tree p) → deep (Path_tree p) ≤ limit
-    → reading limit path (encode (Path_tree p)) ≡ Sound
+    → reading limit path (encode (Path_tree p)) ≡ Ok tt
 root-of limit p n = fits-sound limit path (Path_tree p) (allowed-fits (Path_tree p) path refl (Path_allowed p) n)
 
-pub path-reads : (limit : ℕ) (root : Bytes) → PathOf limit root → reading limit path root ≡ Sound
+pub path-reads : (limit : ℕ) (root : Bytes) → PathOf limit root → reading limit path root ≡ Ok tt
 path-reads limit root h = ap (reading limit path) h.is-root ∙ root-of limit h.p h.is-named h.canonical h.shallow
 
 -- so of every sound card and root the definitions make the record tree of apply(root)(m)
-pub apply-card : (limit depth : ℕ) (card root : Bytes) → AreBytes card → AreBytes root → reading limit mod' card ≡ Sound → reading depth path root ≡ Sound →
+pub apply-card : (limit depth : ℕ) (card root : Bytes) → AreBytes card → AreBytes root → reading limit mod' card ≡ Ok tt → reading depth path root ≡ Ok tt →
     (p : Path) × (m : Mod) × (tree root ≡ Path_tree p) × (tree card ≡ Mod_tree m) × (apply upstream (tree root) (tree card) ≡ Mod_tree (Text.apply p m))
 apply-card limit depth card root b c s r =
     let q : PathOf depth root = every-root depth root c r in

@@ -1,4 +1,5 @@
 -- THE OUTERMOST MODULE of a card that is admitted: what is written of it is the output, or the place of the first table that is full. Assumes nothing.
+use Rattle.std.specs.Prelude.{Ok}
 use mathlib.Core.Path.{◌≡◌, ap, sym, subst, ◌∙◌}
 use mathlib.Core.List.{List, [], append-nil}
 use mathlib.Core.Option.{none}
@@ -6,7 +7,6 @@ use Prim.Native.Nat.{ℕ, ◌+◌, ◌/◌, ◌<◌, ◌≤◌, min}
 use native.Mathlib.Nat.{le_refl}
 use native.Mathlib.Omega.{arith}
 use lib.ListN.{length, get_or}
-use Rattle.answers.specs.declared.Verdict.TheVariants.{Sound}
 use Rattle.wire.specs.Numbers.{Bytes}
 use Rattle.wire.proofs.Numbers.{are-bytes}
 use Rattle.records.specs.Record.{encode, tree, deep}
@@ -92,7 +92,7 @@ module _ (card root : Bytes) where
         r.is-card.shallow (le_refl (deep (tree card))) owner held t)
 
 -- what a card and a root that are admitted are
-pub admitted-reads : (op : Shortening) (card root : Bytes) (words : ℕ) → admitted (operation_of op) card root words ≡ Sound
+pub admitted-reads : (op : Shortening) (card root : Bytes) (words : ℕ) → admitted (operation_of op) card root words ≡ Ok tt
     → ((i : ℕ) → get_or card i 0 < 256) → ((i : ℕ) → get_or root i 0 < 256) → Reads card root (operation_of op).root_depth
 admitted-reads op card root words e bc br =
     let a = admitted-sound (operation_of op) card root words e in
@@ -111,7 +111,7 @@ pub record Outermost (op : Shortening) (card root : Bytes) (most : ℕ) (held : 
   pub long : length M.held.words ≡ length held.words
   pub own : M.owner ≡ 0 → Own card root op M.held
 
-module _ (op : Shortening) (card root : Bytes) (words : ℕ) (sound : admitted (operation_of op) card root words ≡ Sound)
+module _ (op : Shortening) (card root : Bytes) (words : ℕ) (sound : admitted (operation_of op) card root words ≡ Ok tt)
     (bc : (i : ℕ) → get_or card i 0 < 256) (br : (i : ℕ) → get_or root i 0 < 256) where
   -- THE LAW
   pub outermost-is : (owner : ℕ) (held : Table) → (owner ≡ 0 → Own card root op held)

@@ -5,7 +5,7 @@ ghost use Rattle.std.specs.Prelude.{◌≡◌};
 ghost use Rattle.operation.specs.Operations.{operation_of, weight_of, plain_of, weighed_of};
 
 // What a caller asks for.
-#[derive(Clone, Copy)]
+#[derive(Clone, Copy, Debug, PartialEq, Eq)]
 pub enum Pass {
     // the operation that the Dafny text defines
     Upstream,
@@ -14,7 +14,7 @@ pub enum Pass {
 }
 
 // What a walk does: a pass, and the same to be measured, where every changed point has a weight, so that a length also says how many there are.
-#[derive(Clone, Copy)]
+#[derive(Clone, Copy, Debug, PartialEq, Eq)]
 pub enum Shortening {
     Upstream,
     Straight,
@@ -47,10 +47,8 @@ pub fn names_again(op: Shortening) -> bool
     ensures { result ≡ (operation_of op).names_again }
 {
     match op {
-        Shortening::Upstream => true, // ReplaceModDecl adds it, and so does PathSimplifier
-        Shortening::Straight => false, // its own name alone
-        Shortening::WeighedUpstream => true,
-        Shortening::WeighedStraight => false,
+        Shortening::Upstream | Shortening::WeighedUpstream => true, // ReplaceModDecl adds it, and so does PathSimplifier
+        Shortening::Straight | Shortening::WeighedStraight => false, // its own name alone
     }
 }
 
@@ -59,10 +57,8 @@ pub fn walks_again(op: Shortening) -> bool
     ensures { result ≡ (operation_of op).walks_again }
 {
     match op {
-        Shortening::Upstream => true, // ReplaceFn hands on functions that walk again
-        Shortening::Straight => false, // wrapped once
-        Shortening::WeighedUpstream => true,
-        Shortening::WeighedStraight => false,
+        Shortening::Upstream | Shortening::WeighedUpstream => true, // ReplaceFn hands on functions that walk again
+        Shortening::Straight | Shortening::WeighedStraight => false, // wrapped once
     }
 }
 
@@ -71,9 +67,7 @@ pub fn weight(op: Shortening) -> usize
     ensures { result ≡ weight_of op }
 {
     match op {
-        Shortening::Upstream => 0,
-        Shortening::Straight => 0,
-        Shortening::WeighedUpstream => 16777216,
-        Shortening::WeighedStraight => 16777216,
+        Shortening::Upstream | Shortening::Straight => 0,
+        Shortening::WeighedUpstream | Shortening::WeighedStraight => 1 << 24,
     }
 }

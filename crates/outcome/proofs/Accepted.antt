@@ -1,4 +1,5 @@
 -- What an acceptance says of what was lent, and of what is put out. Assumes nothing.
+use Rattle.std.specs.Prelude.{Ok, Err}
 use mathlib.Core.Path.{◌≡◌, refl, ap, sym, ◌∙◌}
 use mathlib.Core.List.{List, ◌++◌}
 use mathlib.Core.Bool.{Bool, true, false, false≢true}
@@ -9,11 +10,12 @@ use lib.ListN.{length, drop, replicate}
 use lib.Dec.{leb, ltb}
 use borrow.Author.Tests.{ltb-false, leb-true}
 use Rattle.answers.specs.Answers.{number, value}
-use Rattle.answers.specs.declared.Answer.{Answer}
-use Rattle.answers.specs.declared.Answer.TheVariants.{Shortened, ShortWork, LongCard, BadRoot, ShortRecord, WrongKind}
-use Rattle.answers.specs.declared.Answer.TheVariants.{TooDeep, LeftOver, FullTable, NoSpace, ShortList, NoName}
-use Rattle.answers.specs.declared.Verdict.{Verdict}
-use Rattle.answers.specs.declared.Verdict.TheVariants.{Sound, Refused}
+use Rattle.answers.specs.Answers.{Answer}
+use Rattle.answers.proofs.Plain.{refusal-numbered}
+use Rattle.answers.specs.declared.Refusal.{Refusal}
+use Rattle.answers.specs.declared.Refusal.TheVariants.{ShortWork, LongCard, BadRoot, ShortRecord, WrongKind}
+use Rattle.answers.specs.declared.Refusal.TheVariants.{TooDeep, LeftOver, FullTable, NoSpace, ShortList, NoName}
+use Rattle.answers.specs.Answers.{Verdict}
 use Rattle.wire.specs.Numbers.{Bytes, AreBytes}
 use Rattle.records.specs.Record.{deep, tree}
 use Rattle.records.specs.Kinds.{path}
@@ -33,53 +35,25 @@ pub record Accepted (op : Operation) (card root out : Bytes) (work : List ℕ) (
   pub words : op.fewest_words ≤ length work
   pub card-length : length card ≤ op.most_card_bytes
   pub root-length : length root ≤ op.most_root_bytes
-  pub root-sound : reading op.root_depth path root ≡ Sound
-  pub card-sound : reading op.card_depth op.outermost card ≡ Sound
+  pub root-sound : reading op.root_depth path root ≡ Ok tt
+  pub card-sound : reading op.card_depth op.outermost card ≡ Ok tt
   pub no-full-table : full_table op (op.most_pairs (length work)) (deep (tree card)) (tree card) (MSel (tree root) (name_of (tree card))) 0 ≡ none
   pub fits : length (output op card root out work) ≤ length out
   pub long : n ≡ length (output op card root out work)
   pub out-is : (shorten op card root out work).out ≡ output op card root out work ++ drop (length (output op card root out work)) out
   pub work-is : (shorten op card root out work).work ≡ replicate (length work) 0
 
-is-sound : (v : Verdict) → is_sound v ≡ true → v ≡ Sound
-is-sound Sound e = refl
-is-sound (Refused a) e = absurd (false≢true e)
+is-sound : (v : Verdict) → is_sound v ≡ true → v ≡ Ok tt
+is-sound (Ok _) e = refl
+is-sound (Err a) e = absurd (false≢true e)
 
 -- no refusal is an acceptance
-never : {X : Type 0} (a : Answer) (n : ℕ) → (number a ≡ 0 → ⊥) → a ≡ Shortened n → X
+never : {X : Type 0} (a : Answer) (n : ℕ) → (number a ≡ 0 → ⊥) → a ≡ Ok n → X
 never a n h e = absurd (h (ap number e))
 
-faulty : (a : Answer) → fault a ≡ true → number a ≡ 0 → ⊥
-faulty (Shortened n) e z = absurd (false≢true e)
-faulty ShortWork e z = absurd (false≢true e)
-faulty LongCard e z = absurd (false≢true e)
-faulty BadRoot e z = absurd (false≢true e)
-faulty (ShortRecord n) e z = omega arith
-faulty (WrongKind n) e z = omega arith
-faulty (TooDeep n) e z = omega arith
-faulty (LeftOver n) e z = omega arith
-faulty (FullTable n) e z = absurd (false≢true e)
-faulty NoSpace e z = absurd (false≢true e)
-faulty ShortList e z = absurd (false≢true e)
-faulty (NoName n) e z = omega arith
-
 -- nor is one by which a card is not admitted
-pub refused-number : (op : Operation) (card root : Bytes) (words : ℕ) (a : Answer) → admitted op card root words ≡ Refused a → number a ≡ 0 → ⊥
-unfolding admitted
-refused-number op card root words a h z =
-    by-test (ltb words op.fewest_words) (λ t. numbered (ap number_of (rw t at h)) (omega arith))
-    (λ t. by-test (ltb op.most_card_bytes (length card)) (λ u. numbered (ap number_of (rw (t, u) at h)) (omega arith))
-    (λ u. by-test (good_root op root)
-    (λ g. let e : reading op.card_depth op.outermost card ≡ Refused a = rw (t, u, g) at h in
-    faulty a (sym (ap fair e) ∙ reading-fair op.card_depth op.outermost card) z)
-    (λ g. numbered (ap number_of (rw (t, u, g) at h)) (omega arith))))
-  where
-    number_of : Verdict → ℕ
-    number_of Sound = 1
-    number_of (Refused a) = number a
-
-    numbered : {n : ℕ} → n ≡ number a → 1 ≤ n → ⊥
-    numbered e l = omega (arith, e, l, z)
+pub refused-number : (op : Operation) (card root : Bytes) (words : ℕ) (a : Refusal) → admitted op card root words ≡ Err a → number (Err a) ≡ 0 → ⊥
+refused-number op card root words a h z = let n = refusal-numbered a in omega arith
 
 -- a card that is admitted
 -- the operations admit alike
@@ -91,10 +65,10 @@ pub record Admitted (op : Operation) (card root : Bytes) (words : ℕ) : Type 0 
   pub enough : op.fewest_words ≤ words
   pub card-length : length card ≤ op.most_card_bytes
   pub root-length : length root ≤ op.most_root_bytes
-  pub root-sound : reading op.root_depth path root ≡ Sound
-  pub card-sound : reading op.card_depth op.outermost card ≡ Sound
+  pub root-sound : reading op.root_depth path root ≡ Ok tt
+  pub card-sound : reading op.card_depth op.outermost card ≡ Ok tt
 
-pub admitted-sound : (op : Operation) (card root : Bytes) (words : ℕ) → admitted op card root words ≡ Sound → Admitted op card root words
+pub admitted-sound : (op : Operation) (card root : Bytes) (words : ℕ) → admitted op card root words ≡ Ok tt → Admitted op card root words
 unfolding admitted
 admitted-sound op card root words h =
     by-test (ltb words op.fewest_words) (λ a. not-refused (rw a at h))
@@ -110,21 +84,21 @@ admitted-sound op card root words h =
     })
     (λ g. not-refused (rw (a, b, g) at h))))
   where
-    not-refused : {a : Answer} → Refused a ≡ Sound → Admitted op card root words
+    not-refused : {a : Refusal} → ◌≡◌ {A = Verdict} (Err a) (Ok tt) → Admitted op card root words
     not-refused z = absurd (false≢true (ap is_sound z))
 
 module _ (op : Operation) (card root out : Bytes) (work : List ℕ) (n : ℕ) where
   abbrev made : Outcome
   made =
       let o : Bytes = output op card root out work in
-      record { answer = Shortened (length o); out = o ++ drop (length o) out; work = replicate (length work) 0 }
+      record { answer = Ok (length o); out = o ++ drop (length o) out; work = replicate (length work) 0 }
 
   -- the checks, each passed
   pub record Passed : Type 0 where
     pub enough : ltb (length work) op.fewest_words ≡ false
     pub brief : ltb op.most_card_bytes (length card) ≡ false
     pub rooted : good_root op root ≡ true
-    pub sound : reading op.card_depth op.outermost card ≡ Sound
+    pub sound : reading op.card_depth op.outermost card ≡ Ok tt
     pub table : full_table op (op.most_pairs (length work)) (deep (tree card)) (tree card) (MSel (tree root) (name_of (tree card))) 0 ≡ none
     pub room : ltb (length out) (length (output op card root out work)) ≡ false
 
@@ -132,32 +106,32 @@ module _ (op : Operation) (card root out : Bytes) (work : List ℕ) (n : ℕ) wh
   unfolding shorten admitted
   passed-made p = rw (p.enough, p.brief, p.rooted, p.sound, p.table, p.room)
 
-  passed-admitted : Passed → admitted op card root (length work) ≡ Sound
+  passed-admitted : Passed → admitted op card root (length work) ≡ Ok tt
   unfolding admitted
   passed-admitted p = rw (p.enough, p.brief, p.rooted, p.sound)
 
-  pub passed : (shorten op card root out work).answer ≡ Shortened n → Passed
+  pub passed : (shorten op card root out work).answer ≡ Ok n → Passed
   unfolding shorten admitted
   passed h =
-      by-test (ltb (length work) op.fewest_words) (λ a. never ShortWork n (λ z. omega arith) (rw a at h))
-      (λ a. by-test (ltb op.most_card_bytes (length card)) (λ b. never LongCard n (λ z. omega arith) (rw (a, b) at h))
+      by-test (ltb (length work) op.fewest_words) (λ a. never (Err ShortWork) n (λ z. omega arith) (rw a at h))
+      (λ a. by-test (ltb op.most_card_bytes (length card)) (λ b. never (Err LongCard) n (λ z. omega arith) (rw (a, b) at h))
       (λ b. by-test (good_root op root)
       (λ g. go a b g (reading op.card_depth op.outermost card) refl (reading-fair op.card_depth op.outermost card) (rw (a, b, g) at h))
-      (λ g. never BadRoot n (λ z. omega arith) (rw (a, b, g) at h))))
+      (λ g. never (Err BadRoot) n (λ z. omega arith) (rw (a, b, g) at h))))
     where
       go : ltb (length work) op.fewest_words ≡ false → ltb op.most_card_bytes (length card) ≡ false → good_root op root ≡ true →
           (v : Verdict) → reading op.card_depth op.outermost card ≡ v → fair (reading op.card_depth op.outermost card) ≡ true
-          → (after_reading op card root out work (op.most_pairs (length work)) v).answer ≡ Shortened n → Passed
-      go a b g (Refused x) e f h = never x n (faulty x (rw e at f)) h
-      go a b g Sound e f h =
+          → (after_reading op card root out work (op.most_pairs (length work)) v).answer ≡ Ok n → Passed
+      go a b g (Err x) e f h = never (Err x) n (λ z. let m = refusal-numbered x in omega arith) h
+      go a b g (Ok _) e f h =
           by-option (full_table op (op.most_pairs (length work)) (deep (tree card)) (tree card) (MSel (tree root) (name_of (tree card))) 0)
           (λ t. by-test (ltb (length out) (length (output op card root out work)))
-          (λ r. never NoSpace n (λ z. omega arith) (rw (t, r) at h))
+          (λ r. never (Err NoSpace) n (λ z. omega arith) (rw (t, r) at h))
           (λ r. record { enough = a; brief = b; rooted = g; sound = e; table = t; room = r }))
-          (λ place t. never (FullTable place) n (λ z. omega arith) (rw t at h))
+          (λ place t. never (Err (FullTable place)) n (λ z. omega arith) (rw t at h))
 
   -- an acceptance is one after every check
-  pub accepted : (shorten op card root out work).answer ≡ Shortened n → Accepted op card root out work n
+  pub accepted : (shorten op card root out work).answer ≡ Ok n → Accepted op card root out work n
   accepted h =
       let p : Passed = passed h in
       let e : shorten op card root out work ≡ made = passed-made p in
@@ -177,7 +151,7 @@ module _ (op : Operation) (card root out : Bytes) (work : List ℕ) (n : ℕ) wh
 
 -- and how long an output can be
 pub accepted-times : (again : Bool) (card root out : Bytes) (work : List ℕ) (n : ℕ) → AreBytes card
-    → (shorten (shortening again) card root out work).answer ≡ Shortened n → n ≤ times (shortening again) * length card
+    → (shorten (shortening again) card root out work).answer ≡ Ok n → n ≤ times (shortening again) * length card
 accepted-times again card root out work n b h =
     let a = accepted (shortening again) card root out work n h in
     rw a.long (card-bound again (tree root) card b a.card-sound)

@@ -1,4 +1,5 @@
 -- 02, request 5: what was not refused by 8 before is answered as before, whatever is lent; and more words change nothing of an acceptance. Assumes nothing.
+use Rattle.std.specs.Prelude.{Ok, Err}
 use mathlib.Core.Path.{◌≡◌, refl, ap, sym, ◌∙◌}
 use mathlib.Core.List.{List}
 use mathlib.Core.Bool.{Bool}
@@ -9,9 +10,8 @@ use lib.ListN.{length, replicate}
 use lib.Dec.{ltb}
 use borrow.Author.Tests.{ltb-false, le-ltb}
 use Rattle.answers.specs.Answers.{number}
-use Rattle.answers.specs.declared.Answer.TheVariants.{Shortened, FullTable}
-use Rattle.answers.specs.declared.Verdict.{Verdict}
-use Rattle.answers.specs.declared.Verdict.TheVariants.{Sound, Refused}
+use Rattle.answers.specs.declared.Refusal.TheVariants.{FullTable}
+use Rattle.answers.specs.Answers.{Verdict}
 use Rattle.wire.specs.Numbers.{Bytes}
 use Rattle.records.specs.Record.{Record, Records, nil, ◌▸◌, deep, is, tree}
 use Rattle.rast.specs.Path.{Path, MSel}
@@ -61,18 +61,18 @@ module _ (again : Bool) (card root out : Bytes) (work : List ℕ) where
   O = shortening again
 
   -- a card that is admitted comes with words for 512 pairs
-  enough : admitted O card root (length work) ≡ Sound → 512 ≤ O.most_pairs (length work)
+  enough : admitted O card root (length work) ≡ Ok tt → 512 ≤ O.most_pairs (length work)
   enough e = let w = (admitted-sound O card root (length work) e).enough in omega (arith, w)
 
   -- THE LAW: a call that 8 was not the answer to is answered as before, and what is lent is after it as before
-  pub unless-full : ((place : ℕ) → (earlier O card root out work).answer ≡ FullTable place → ⊥)
+  pub unless-full : ((place : ℕ) → (earlier O card root out work).answer ≡ Err (FullTable place) → ⊥)
       → shorten O card root out work ≡ earlier O card root out work
   unfolding shorten
   unless-full h = go (admitted O card root (length work)) refl
     where
       go : (v : Verdict) → admitted O card root (length work) ≡ v → shorten O card root out work ≡ earlier O card root out work
-      go (Refused a) e = rw e
-      go Sound e =
+      go (Err a) e = rw e
+      go (Ok _) e =
           by-option (full_table O 512 (deep (tree card)) (tree card) (MSel (tree root) (name_of (tree card))) 0)
           (λ t. rw (
             e,
@@ -83,7 +83,7 @@ module _ (again : Bool) (card root out : Bytes) (work : List ℕ) where
           (λ place t. absurd (h place (rw (e, t))))
 
   -- so is every card that was accepted
-  pub as_before : (n : ℕ) → (earlier O card root out work).answer ≡ Shortened n → shorten O card root out work ≡ earlier O card root out work
+  pub as_before : (n : ℕ) → (earlier O card root out work).answer ≡ Ok n → shorten O card root out work ≡ earlier O card root out work
   as_before n a = unless-full (λ place f. let z = ap number (sym a ∙ f) in omega (arith, z))
 
   -- and with fewer than 2,052 words, every card
@@ -92,17 +92,17 @@ module _ (again : Bool) (card root out : Bytes) (work : List ℕ) where
   same-limit l = go (admitted O card root (length work)) refl
     where
       go : (v : Verdict) → admitted O card root (length work) ≡ v → shorten O card root out work ≡ earlier O card root out work
-      go (Refused a) e = rw e
-      go Sound e =
+      go (Err a) e = rw e
+      go (Ok _) e =
           let w = (admitted-sound O card root (length work) e).enough in
           let q : O.most_pairs (length work) ≡ 512 = omega (arith, w, l) in
           rw (e, q)
 
 -- A card that is accepted is accepted with more words, and with the same output
 pub with-more : (again : Bool) (card root out : Bytes) (work more : List ℕ) → length work ≤ length more → (n : ℕ)
-    → (shorten (shortening again) card root out work).answer ≡ Shortened n
+    → (shorten (shortening again) card root out work).answer ≡ Ok n
     → shorten (shortening again) card root out more
-    ≡ record { answer = Shortened n; out = (shorten (shortening again) card root out work).out; work = replicate (length more) 0 }
+    ≡ record { answer = Ok n; out = (shorten (shortening again) card root out work).out; work = replicate (length more) 0 }
 with-more again card root out work more l n h =
     let p : Passed O card root out work n = passed O card root out work n h in
     let w = ltb-false (length work) 2048 p.enough in

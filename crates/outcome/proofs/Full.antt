@@ -1,4 +1,5 @@
 -- Answer 8 of every card: at its place stands the record of a module that collects too many pairs; where none is found, no module does. Assumes nothing.
+use Rattle.std.specs.Prelude.{Ok, Err}
 use mathlib.Core.Path.{◌≡◌, refl, ap, sym, subst, ◌∙◌}
 use mathlib.Core.List.{List, [], ◌∷◌, append-nil}
 use mathlib.Core.Bool.{true, false, false≢true}
@@ -9,10 +10,9 @@ use native.Mathlib.Omega.{arith}
 use lib.ListN.{length, take, drop}
 use lib.Dec.{ltb, lit≤}
 use Rattle.answers.specs.Answers.{number, value}
-use Rattle.answers.specs.declared.Answer.{Answer}
-use Rattle.answers.specs.declared.Answer.TheVariants.{Shortened, ShortWork, LongCard, BadRoot, FullTable}
-use Rattle.answers.specs.declared.Verdict.{Verdict}
-use Rattle.answers.specs.declared.Verdict.TheVariants.{Sound, Refused}
+use Rattle.answers.specs.declared.Refusal.{Refusal}
+use Rattle.answers.specs.declared.Refusal.TheVariants.{ShortWork, LongCard, BadRoot, FullTable}
+use Rattle.answers.specs.Answers.{Verdict}
 use Rattle.wire.specs.Numbers.{Bytes, AreBytes}
 use Rattle.records.specs.Record.{Record, Records, leaf, node, nil, ◌▸◌, deep, deep_all, encode, encode_all, kind, children, nth, field, first, skip, is, tree}
 use Rattle.records.specs.Kinds.{kinds, one, mod', any, row_of, content_at}
@@ -178,38 +178,38 @@ module _ (op : Operation) (most : ℕ) where
       ⨾ (λ g. absurd (extern-body i m g t))) f
 
 -- 1 to 7 and 11 are not 8
-admitted-not-full : (op : Operation) (card root : Bytes) (words place : ℕ) → admitted op card root words ≡ Refused (FullTable place) → ⊥
+admitted-not-full : (op : Operation) (card root : Bytes) (words place : ℕ) → admitted op card root words ≡ Err (FullTable place) → ⊥
 unfolding admitted
 admitted-not-full op card root words place h =
     by-test (ltb words op.fewest_words) (λ a. other ShortWork (λ z. omega arith) (rw a at h))
     (λ a. by-test (ltb op.most_card_bytes (length card)) (λ b. other LongCard (λ z. omega arith) (rw (a, b) at h))
     (λ b. by-test (good_root op root)
-    (λ g. let e : reading op.card_depth op.outermost card ≡ Refused (FullTable place) = rw (a, b, g) at h in
+    (λ g. let e : reading op.card_depth op.outermost card ≡ Err (FullTable place) = rw (a, b, g) at h in
     false≢true (rw e at (reading-fair op.card_depth op.outermost card)))
     (λ g. other BadRoot (λ z. omega arith) (rw (a, b, g) at h))))
   where
-    other : (a : Answer) → (number a ≡ 8 → ⊥) → Refused a ≡ Refused (FullTable place) → ⊥
-    other a n z = let e : a ≡ FullTable place = cc in n (ap number e)
+    other : (a : Refusal) → (number (Err a) ≡ 8 → ⊥) → ◌≡◌ {A = Verdict} (Err a) (Err (FullTable place)) → ⊥
+    other a n z = let e : a ≡ FullTable place = cc in n (ap (λ (x : Refusal). number (Err x)) e)
 
 module _ (op : Operation) (there : op.outermost ≡ mod') (card root out : Bytes) (work : List ℕ) (bytes : AreBytes card) where
   -- the outermost module's
   abbrev prefix : Path
   prefix = MSel (tree root) (name_of (tree card))
 
-  is-card : reading op.card_depth op.outermost card ≡ Sound → ReadsAs op.card_depth mod' card (tree card)
+  is-card : reading op.card_depth op.outermost card ≡ Ok tt → ReadsAs op.card_depth mod' card (tree card)
   is-card e = sound-reads op.card_depth mod' card bytes (rw there at e)
 
   -- where a call answers 8, the card's bytes at the place are those of a Mod of its tree that collects more pairs than there may be
-  pub full-answer : (place : ℕ) → (shorten op card root out work).answer ≡ FullTable place
+  pub full-answer : (place : ℕ) → (shorten op card root out work).answer ≡ Err (FullTable place)
       → FullAt op (op.most_pairs (length work)) card (tree card) prefix place
   unfolding shorten
   full-answer place h = go (admitted op card root (length work)) refl h
     where
       go : (v : Verdict) → admitted op card root (length work) ≡ v → (after_reading op card root out work (op.most_pairs (length work)) v).answer
-          ≡ FullTable place
+          ≡ Err (FullTable place)
           → FullAt op (op.most_pairs (length work)) card (tree card) prefix place
-      go (Refused a) e h = absurd (admitted-not-full op card root (length work) place (e ∙ ap Refused h))
-      go Sound e h =
+      go (Err a) e h = absurd (admitted-not-full op card root (length work) place (let f : a ≡ FullTable place = cc in e ∙ ap Err f))
+      go (Ok _) e h =
           by-option (full_table op (op.most_pairs (length work)) (deep (tree card)) (tree card) prefix 0)
           (λ t. by-test (ltb (length out) (length (output op card root out work)))
           (λ r. let z : 9 ≡ 8 = ap number (rw (t, r) at h) in absurd (omega arith))
@@ -220,7 +220,7 @@ module _ (op : Operation) (there : op.outermost ≡ mod') (card root out : Bytes
           (record { after = []; is = sym (append-nil (encode (tree card)) ∙ r.encoded) }) (t ∙ ap some z))
 
   -- and where it accepts, no Mod of the card's tree collects more
-  pub accepted-none-full : (n : ℕ) → (shorten op card root out work).answer ≡ Shortened n
+  pub accepted-none-full : (n : ℕ) → (shorten op card root out work).answer ≡ Ok n
       → {found : Record} {in-it : Path} → kind found ≡ 0x60 → In op found in-it (tree card) prefix
       → ltb (op.most_pairs (length work)) (pairs (mappings op found in-it).provenance) ≡ false
   accepted-none-full n h k i =

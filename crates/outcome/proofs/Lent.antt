@@ -1,4 +1,5 @@
 -- Demand 1, of every answer. Assumes nothing.
+use Rattle.std.specs.Prelude.{Ok, Err}
 use mathlib.Core.Path.{◌≡◌, refl}
 use mathlib.Core.Bool.{false, true≢false, cond}
 use mathlib.Core.List.{List}
@@ -6,8 +7,7 @@ use Prim.Native.Nat.{ℕ}
 use lib.ListN.{length, replicate}
 use lib.Dec.{eqb, ltb}
 use Rattle.answers.specs.Answers.{number}
-use Rattle.answers.specs.declared.Verdict.{Verdict}
-use Rattle.answers.specs.declared.Verdict.TheVariants.{Sound, Refused}
+use Rattle.answers.specs.Answers.{Verdict}
 use Rattle.wire.specs.Numbers.{Bytes}
 use Rattle.records.specs.Record.{deep, tree}
 use Rattle.rast.specs.Path.{MSel}
@@ -32,8 +32,8 @@ module _ (op : Operation) (card root out : Bytes) (work : List ℕ) where
   left = go (admitted op card root (length work)) refl
     where
       go : (v : Verdict) → admitted op card root (length work) ≡ v → Left
-      go (Refused a) e = rw e (refl, λ h. refl)
-      go Sound e =
+      go (Err a) e = rw e (refl, λ h. refl)
+      go (Ok _) e =
           by-option (full_table op (op.most_pairs (length work)) (deep (tree card)) (tree card) (MSel (tree root) (name_of (tree card))) 0)
           (λ t. by-test (ltb (length out) (length (output op card root out work)))
           (λ u. rw (e, t, u) (refl, λ h. refl))

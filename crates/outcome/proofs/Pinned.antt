@@ -1,11 +1,12 @@
 -- Answer 8 in nested modules, on one card, by computation: which module is full by how many pairs there may be, and what is lent after it. Assumes nothing.
+use Rattle.std.specs.Prelude.{Err}
 use mathlib.Core.Path.{◌≡◌, refl}
 use mathlib.Core.List.{[], ◌∷◌, map}
 use mathlib.Core.Option.{none, some}
 use Prim.Native.Nat.{ℕ}
 use lib.ListN.{length, take, drop, replicate}
-use Rattle.answers.specs.declared.Answer.{Answer}
-use Rattle.answers.specs.declared.Answer.TheVariants.{ShortWork, LongCard, BadRoot, ShortRecord, FullTable, NoSpace}
+use Rattle.answers.specs.Answers.{Answer}
+use Rattle.answers.specs.declared.Refusal.TheVariants.{ShortWork, LongCard, BadRoot, ShortRecord, FullTable, NoSpace}
 use Rattle.wire.specs.Numbers.{Bytes, le, num, same_bytes}
 use Rattle.records.specs.Record.{Record, Records, leaf, node, nil, ◌▸◌, deep, encode, parse, nth, tree, set_nth, ◌▸▸◌, first, FoldLeft, map_all}
 use Rattle.records.specs.Kinds.{row_of, content_at}
@@ -127,7 +128,7 @@ late a words = record { answer = a; out = 7 ∷ 8 ∷ []; work = replicate words
 
 -- 8 at the module that is full, though the out buffer is too short; with room for every pair, 9. The card and the root are as long as they may be
 pub full-first : map (λ words. lent words (encode card) (encode Crate)) (1 ∷ 2 ∷ 3 ∷ 4 ∷ [])
-    ≡ late (FullTable 0) 1 ∷ late (FullTable 37) 2 ∷ late (FullTable 260) 3 ∷ late NoSpace 4 ∷ []
+    ≡ late (Err (FullTable 0)) 1 ∷ late (Err (FullTable 37)) 2 ∷ late (Err (FullTable 260)) 3 ∷ late (Err NoSpace) 4 ∷ []
 unfolding le num same_bytes deep encode parse nth tree set_nth ◌▸▸◌ first FoldLeft map_all row_of content_at read reading same_path Mod-as-Fold Fold Replace
     VisitType VisitTypeParams VisitBody VisitImplMapping VisitStructMapping VisitModMapping VisitMod ReplaceType ReplaceFields ReplaceTypeParams
     ReplaceBody ReplaceImplDecl ReplaceStruct ReplaceModDecl ReplaceMod get set is_among final_path Add ToFinalReplacement ToUseStatements pairs VisitTypeSingle
@@ -141,6 +142,6 @@ early a words = record { answer = a; out = 7 ∷ 8 ∷ []; work = replicate word
 -- 1 before 2, 2 before 3, 3 before reading; and a root that is too long, though it is sound
 pub in_order :
     lent 0 (replicate 835 0) [] ∷ lent 1 (replicate 835 0) [] ∷ lent 1 [] [] ∷ lent 1 [] (encode (MSel Global X)) ∷ lent 1 [] (encode Crate) ∷ []
-    ≡ early ShortWork 0 ∷ early LongCard 1 ∷ early BadRoot 1 ∷ early BadRoot 1 ∷ early (ShortRecord 0) 1 ∷ []
+    ≡ early (Err ShortWork) 0 ∷ early (Err LongCard) 1 ∷ early (Err BadRoot) 1 ∷ early (Err BadRoot) 1 ∷ early (Err (ShortRecord 0)) 1 ∷ []
 unfolding le num encode row_of content_at read reading admitted shorten
 in_order = refl

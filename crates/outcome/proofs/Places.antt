@@ -1,4 +1,5 @@
 -- How large the place of an answer is. Assumes nothing.
+use Rattle.std.specs.Prelude.{Ok, Err}
 use mathlib.Core.Path.{◌≡◌, refl}
 use mathlib.Core.Bool.{Bool, true, false, not, cond}
 use Prim.Native.Nat.{ℕ, ◌≤◌}
@@ -7,8 +8,7 @@ use lib.ListN.{length}
 use lib.Dec.{ltb}
 use borrow.Author.Tests.{ltb-false}
 use Rattle.answers.specs.Answers.{value}
-use Rattle.answers.specs.declared.Verdict.{Verdict}
-use Rattle.answers.specs.declared.Verdict.TheVariants.{Sound, Refused}
+use Rattle.answers.specs.Answers.{Verdict}
 use Rattle.wire.specs.Numbers.{Bytes}
 use Rattle.records.specs.Kinds.{mod'}
 use Rattle.records.specs.Reading.{reading}
@@ -18,13 +18,13 @@ use Rattle.outcome.specs.Outcome.{good_root, admitted}
 
 -- the place of a refusal
 abbrev pub place : Verdict → ℕ
-place Sound = 0
-place (Refused a) = value a
+place (Ok _) = 0
+place (Err a) = value (Err a)
 
 within-place : (m : ℕ) (v : Verdict) → Within m v → place v ≤ m
 unfolding Within
-within-place m Sound w = omega arith
-within-place m (Refused a) w = w.1
+within-place m (Ok _) w = omega arith
+within-place m (Err a) w = w.1
 
 picked : (m : ℕ) (t : Bool) (v w : Verdict) → place v ≤ m → (t ≡ false → place w ≤ m) → place (cond t v w) ≤ m
 picked m true v w p q = p

@@ -1,4 +1,5 @@
 -- The public call's promise with a list, packed. Assumes nothing.
+use Rattle.std.specs.Prelude.{Result, Ok, Err}
 use mathlib.Core.Path.{◌≡◌, refl, sym, ap, subst, ◌∙◌}
 use mathlib.Core.Bool.{Bool, cond}
 use mathlib.Core.List.{List}
@@ -7,10 +8,9 @@ use native.Mathlib.Omega.{arith}
 use lib.ListN.{length, take, get_or}
 use lib.Dec.{eqb, ltb}
 use borrow.Author.Tests.{eq-eqb, ne_eqb}
-use Rattle.answers.specs.declared.Verdict.{Verdict}
-use Rattle.answers.specs.declared.Verdict.TheVariants.{Sound, Refused}
+use Rattle.answers.specs.Answers.{Verdict}
 use Rattle.answers.specs.Answers.{number, value, packed}
-use Rattle.answers.proofs.Plain.{packed-plain}
+use Rattle.answers.proofs.Plain.{packed-plain, refusal-numbered}
 use Rattle.wire.specs.Numbers.{Bytes, AreBytes}
 use Rattle.wire.proofs.Numbers.{are-bytes}
 use Rattle.records.specs.Record.{tree}
@@ -23,7 +23,9 @@ use Rattle.places.specs.Listing.{Listing, places, shorten_listing}
 use Rattle.places.proofs.Few.{card-few}
 use Rattle.operation.specs.declared.Pass.{Pass}
 use Rattle.operation.specs.Passes.{repeats, asked}
+use Rattle.answers.specs.declared.Refusal.{Refusal}
 use Rattle.placing.specs.declared.Listed.{Listed}
+use Rattle.placing.specs.Placing.{answer_in, entries_in}
 use Rattle.shortening_places.specs.Placed.{Promise, Answered}
 use Rattle.shortening_places.proofs.Kept.{answered}
 use Rattle.packing.proofs.Plain.{value-small}
@@ -61,8 +63,8 @@ module _ (pass : Pass) (card root out : Bytes) (work list : List ℕ) (b : AreBy
   entries-whole = go (admitted (asked pass) card root (length work)) refl
     where
       go : (v : Verdict) → admitted (asked pass) card root (length work) ≡ v → L.entries < 4294967296
-      go (Refused a) e = rw (e, ne_eqb (number a) 0 (refused-number (asked pass) card root (length work) a e)) (omega arith)
-      go Sound e =
+      go (Err a) e = rw (e, ne_eqb (number (Err a)) 0 (refused-number (asked pass) card root (length work) a e)) (omega arith)
+      go (Ok _) e =
           let s = admitted-sound (asked pass) card root (length work) e in
           let f = card-few (repeats pass) (tree root) card b s.card-sound in
           let m = s.card-length in
@@ -75,11 +77,11 @@ module _ (pass : Pass) (card root out : Bytes) (work list : List ℕ) where
   abbrev Due : Listing
   Due = shorten_listing (asked pass) card root out work list
 
-  module _ (b : (i : ℕ) → get_or card i 0 < 256) (r : Listed) (out' : Bytes) (list' : List ℕ) where
-    pub entries_fit : Answered pass card root Due r out' list' → r.entries < 4294967296
+  module _ (b : (i : ℕ) → get_or card i 0 < 256) (r : Result Listed Refusal) (out' : Bytes) (list' : List ℕ) where
+    pub entries_fit : Answered pass card root Due r out' list' → (entries_in r) < 4294967296
     entries_fit p = let e = p.entries-are in let l = entries-whole pass card root out work list (are-bytes card b) in omega (arith, e, l)
 
-    module _ (entries a entries' : ℕ) (e : (a ≡ packed r.answer) × (entries' ≡ cond (eqb (number r.answer) 0) r.entries entries)) where
+    module _ (entries a entries' : ℕ) (e : (a ≡ packed (answer_in r)) × (entries' ≡ cond (eqb (number (answer_in r)) 0) (entries_in r) entries)) where
       pub packs : Answered pass card root Due r out' list' → PackedListing pass card root Due entries a out' list' entries'
       packs p =
           record {
@@ -91,8 +93,8 @@ module _ (pass : Pass) (card root out : Bytes) (work list : List ℕ) where
             names = λ n h. p.names n (p.answer-is ∙ h);
             bound = λ n h. p.bound n (p.answer-is ∙ h);
             exact = λ n h.
-                let z : entries' ≡ r.entries =
-                e.1 ∙ ap (λ (x : Bool). cond x r.entries entries) (eq-eqb (number r.answer) 0 (ap number (p.answer-is ∙ h))) in
+                let z : entries' ≡ (entries_in r) =
+                e.1 ∙ ap (λ (x : Bool). cond x (entries_in r) entries) (eq-eqb (number (answer_in r)) 0 (ap number (p.answer-is ∙ h))) in
                 subst (λ (k : ℕ). ListExact card (take n out') k list') (sym z) (p.exact n (p.answer-is ∙ h));
           }
 
@@ -100,9 +102,6 @@ module _ (pass : Pass) (card root out : Bytes) (work list : List ℕ) where
           → PackedPlaces pass card root out work list entries a out' work' list' entries'
       packs-promise work' p = record { packed = packs (answered p); work-is = ap (λ (x : Listing). x.work) p.fixed }
 
--- the lent word, by whether the answer is a refusal
-pub put-by : (r : Listed) (entries k : ℕ) → k ≡ number r.answer → k ≡ 0 → r.entries ≡ cond (eqb (number r.answer) 0) r.entries entries
-put-by r entries k q z = sym (ap (λ (x : Bool). cond x r.entries entries) (eq-eqb (number r.answer) 0 (sym q ∙ z)))
-
-pub left_by : (r : Listed) (entries k : ℕ) → k ≡ number r.answer → (k ≡ 0 → ⊥) → entries ≡ cond (eqb (number r.answer) 0) r.entries entries
-left_by r entries k q z = sym (ap (λ (x : Bool). cond x r.entries entries) (ne_eqb (number r.answer) 0 (λ e. z (q ∙ e))))
+-- a refusal leaves the lent word
+pub left : (a : Refusal) (entries : ℕ) → entries ≡ cond (eqb (number (Err a)) 0) 0 entries
+left a entries = rw (ne_eqb (number (Err a)) 0 (λ z. let n = refusal-numbered a in omega arith))

@@ -1,4 +1,5 @@
 -- An answer's length or place is under 2 ^ 32, so that it stands whole in the packed number. Assumes nothing.
+use Rattle.std.specs.Prelude.{Ok, Err}
 use mathlib.Core.Path.{◌≡◌, refl, ap}
 use mathlib.Core.Bool.{Bool}
 use mathlib.Core.List.{List}
@@ -6,9 +7,8 @@ use Prim.Native.Nat.{ℕ, ◌+◌, ◌*◌, ◌-◌, ◌<◌, ◌≤◌}
 use native.Mathlib.Omega.{arith}
 use lib.ListN.{length, drop, length-take, length-drop}
 use lib.Dec.{ltb}
-use Rattle.answers.specs.declared.Answer.TheVariants.{FullTable}
-use Rattle.answers.specs.declared.Verdict.{Verdict}
-use Rattle.answers.specs.declared.Verdict.TheVariants.{Sound, Refused}
+use Rattle.answers.specs.declared.Refusal.TheVariants.{FullTable}
+use Rattle.answers.specs.Answers.{Verdict}
 use Rattle.answers.specs.Answers.{number, value, packed}
 use Rattle.answers.proofs.Plain.{packed-plain}
 use Rattle.wire.specs.Numbers.{Bytes, AreBytes}
@@ -30,7 +30,7 @@ module _ (again : Bool) (card root out : Bytes) (work : List ℕ) (b : AreBytes 
   O = shortening again
 
   -- a full table's place lies in the card
-  full-small : (place : ℕ) → (shorten O card root out work).answer ≡ FullTable place → place ≤ length card
+  full-small : (place : ℕ) → (shorten O card root out work).answer ≡ Err (FullTable place) → place ≤ length card
   full-small place h =
       let f = full-answer O refl card root out work b place h in
       let s = ap length f.stands in
@@ -44,10 +44,10 @@ module _ (again : Bool) (card root out : Bytes) (work : List ℕ) (b : AreBytes 
   value-small = go (admitted O card root (length work)) refl
     where
       go : (v : Verdict) → admitted O card root (length work) ≡ v → value (shorten O card root out work).answer < 4294967296
-      go (Refused a) e =
-          let p : value a ≤ 32768 = rw e at (admitted-place again card root (length work)) in
+      go (Err a) e =
+          let p : value (Err a) ≤ 32768 = rw e at (admitted-place again card root (length work)) in
           rw e (omega arith)
-      go Sound e =
+      go (Ok _) e =
           let s = admitted-sound O card root (length work) e in
           by-option (full_table O (O.most_pairs (length work)) (deep (tree card)) (tree card) (MSel (tree root) (name_of (tree card))) 0)
           (λ t. by-test (ltb (length out) (length (output O card root out work)))

@@ -1,6 +1,5 @@
 -- What a call with its answer as one number promises: the public call's promise, with the answer packed. Assumes nothing: these are definitions.
-use Rattle.std.specs.Prelude.{◌≡◌, List, ℕ, ◌+◌, ◌*◌, ◌^◌, ◌<◌, ◌≤◌, length, take}
-use Rattle.answers.specs.declared.Answer.TheVariants.{Shortened}
+use Rattle.std.specs.Prelude.{◌≡◌, List, ℕ, ◌+◌, ◌*◌, ◌^◌, ◌<◌, ◌≤◌, length, take, Ok}
 use Rattle.answers.specs.Answers.{number, value}
 use Rattle.wire.specs.Numbers.{Bytes}
 use Rattle.operation.specs.declared.Pass.{Pass}
@@ -18,8 +17,8 @@ pub record PackedOutcome (pass : Pass) (card root : Bytes) (due : Outcome) (answ
   pub whole : value due.answer < 2 ^ 32
   pub out-is : out' ≡ due.out
   -- demand 3, and how long an output can be
-  pub names : (n : ℕ) → due.answer ≡ Shortened n → NamesHold (asked pass) card root (take n out')
-  pub bound : (n : ℕ) → due.answer ≡ Shortened n → n ≤ times (asked pass) * length card
+  pub names : (n : ℕ) → due.answer ≡ Ok n → NamesHold (asked pass) card root (take n out')
+  pub bound : (n : ℕ) → due.answer ≡ Ok n → n ≤ times (asked pass) * length card
 
 -- with work words of its own, as if 2,048 were lent
 abbrev pub PackedAlone : Pass → (card root out : Bytes) → ℕ → Bytes → Type 0

@@ -1,6 +1,5 @@
 -- What a call with a list and its answer as one number promises: the public call's promise, with the answer packed. Assumes nothing: these are definitions.
-use Rattle.std.specs.Prelude.{◌≡◌, cond, List, ℕ, ◌+◌, ◌*◌, ◌^◌, ◌<◌, ◌≤◌, length, take, eqb}
-use Rattle.answers.specs.declared.Answer.TheVariants.{Shortened}
+use Rattle.std.specs.Prelude.{◌≡◌, cond, List, ℕ, ◌+◌, ◌*◌, ◌^◌, ◌<◌, ◌≤◌, length, take, eqb, Ok}
 use Rattle.answers.specs.Answers.{number, value}
 use Rattle.wire.specs.Numbers.{Bytes}
 use Rattle.operation.specs.declared.Pass.{Pass}
@@ -22,10 +21,10 @@ pub record PackedListing (pass : Pass) (card root : Bytes) (due : Listing) (entr
   -- the number of entries stands in its lent word; a refusal leaves that
   pub entries-are : entries' ≡ cond (eqb (number due.answer) 0) due.entries entries
   -- demand 3, and how long an output can be
-  pub names : (n : ℕ) → due.answer ≡ Shortened n → NamesHold (asked pass) card root (take n out')
-  pub bound : (n : ℕ) → due.answer ≡ Shortened n → n ≤ times (asked pass) * length card
+  pub names : (n : ℕ) → due.answer ≡ Ok n → NamesHold (asked pass) card root (take n out')
+  pub bound : (n : ℕ) → due.answer ≡ Ok n → n ≤ times (asked pass) * length card
   -- and the list is exact
-  pub exact : (n : ℕ) → due.answer ≡ Shortened n → ListExact card (take n out') entries' list'
+  pub exact : (n : ℕ) → due.answer ≡ Ok n → ListExact card (take n out') entries' list'
 
 -- with work words of its own, as if 2,048 were lent
 abbrev pub PackedPlacesAlone : Pass → (card root out : Bytes) (list : List ℕ) → ℕ → ℕ → Bytes → List ℕ → ℕ → Type 0

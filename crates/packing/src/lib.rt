@@ -3,9 +3,11 @@
 
 ghost use Rattle.std.specs.Prelude.{◌≡◌, cond, ◌<◌, ◌^◌, eqb};
 ghost use Rattle.answers.specs.Answers.{number, packed};
+ghost use Rattle.placing.specs.Placing.{answer_in, entries_in};
 ghost use Rattle.packing.specs.Packed.{PackedAlone, PackedPromise};
 ghost use Rattle.packing.specs.PackedPlaces.{PackedPlacesAlone, PackedPlaces};
 
+use answers::Refusal;
 use operation::Pass;
 use placing::Listed;
 
@@ -24,15 +26,17 @@ pub fn shorten_alone(pass: Pass, card: &[u8], root: &[u8], out: &mut [u8]) -> u6
 }
 
 // An answer with the number of entries of its list, which is put into a lent word; a refusal leaves that.
-fn pack(r: Listed, entries: &mut u32) -> u64
-    requires { r.entries < 2 ^ 32 }
-    ensures { (result ≡ packed r.answer) × (entries.new ≡ cond (eqb (number r.answer) 0) r.entries entries.old) }
+fn pack(r: Result<Listed, Refusal>, entries: &mut u32) -> u64
+    requires { entries_in r < 2 ^ 32 }
+    ensures { (result ≡ packed (answer_in r)) × (entries.new ≡ cond (eqb (number (answer_in r)) 0) (entries_in r) entries.old) }
 {
-    let a = r.answer;
-    if answers::number(a) == 0 {
-        *entries = r.entries as u32;
+    match r {
+        Ok(listed) => {
+            *entries = listed.entries as u32;
+            answers::packed(Ok(listed.length))
+        }
+        Err(refusal) => answers::packed(Err(refusal)),
     }
-    answers::packed(a)
 }
 
 // With lent work words and a list of places.

@@ -9,8 +9,8 @@ ghost use Rattle.factor_paths.specs.PathsVisitor.{marked};
 
 const SELF: [u8; 6] = [2, 0, 0, 0, 0x12, 0];
 
-// What stands before the name in the record of ::dafny_runtime.
-const RUNTIME_HEAD: [u8; 18] = [27, 0, 0, 0, 0x13, 0, 2, 0, 0, 0, 0x10, 0, 15, 0, 0, 0, 1, 0];
+// The record of ::dafny_runtime.
+const RUNTIME: &[u8; 31] = b"\x1b\0\0\0\x13\0\x02\0\0\0\x10\0\x0f\0\0\0\x01\0dafny_runtime";
 
 pub fn is_self(path: &[u8]) -> bool
     ensures { result ≡ same_bytes path.now (encode Self) }
@@ -21,22 +21,12 @@ pub fn is_self(path: &[u8]) -> bool
 pub fn is_runtime(path: &[u8]) -> bool
     ensures { result ≡ same_bytes path.now (encode dafny_runtime) }
 {
-    if path.len() < 18 {
-        return false;
-    }
-    if !wire::same(&path[..18], &RUNTIME_HEAD) {
-        return false;
-    }
-    wire::same(&path[18..], b"dafny_runtime")
+    wire::same(path, RUNTIME)
 }
 
 // Whether a name ends in '!'.
 pub fn is_marked(name: &[u8]) -> bool
     ensures { result ≡ marked name.now }
 {
-    let n = name.len();
-    if n == 0 {
-        return false;
-    }
-    name[n - 1] == b'!'
+    name.last() == Some(&b'!')
 }

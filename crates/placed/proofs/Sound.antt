@@ -1,4 +1,5 @@
 -- THE RESULT over a sound card, whatever is lent: 8, 9 or 10 with nothing written, or the text's output and the list of its changed points. Assumes nothing.
+use Rattle.std.specs.Prelude.{Ok, Err}
 use mathlib.Core.Path.{◌≡◌, refl, ap, sym, ◌∙◌}
 use mathlib.Core.Bool.{false, cond}
 use mathlib.Core.List.{List, [], ◌++◌}
@@ -9,8 +10,7 @@ use lib.ListN.{length, take, drop, get_or, length-append, length-drop}
 use lib.Seq.{take-append_seam}
 use lib.Dec.{leb, ltb}
 use borrow.Author.Tests.{lt-ltb, le-ltb, ltb-true, ltb-false, leb-true}
-use Rattle.answers.specs.declared.Answer.TheVariants.{Shortened, FullTable, NoSpace, ShortList}
-use Rattle.answers.specs.declared.Verdict.TheVariants.{Sound}
+use Rattle.answers.specs.declared.Refusal.TheVariants.{FullTable, NoSpace, ShortList}
 use Rattle.wire.specs.Numbers.{Bytes}
 use Rattle.wire.proofs.Numbers.{are-bytes}
 use Rattle.records.specs.Record.{Record, encode, tree, deep}
@@ -46,7 +46,6 @@ use Rattle.laying.specs.Lays.{lay}
 use Rattle.laying.proofs.Laws.{lay-whole}
 use Rattle.listing.specs.Lists.{card_places}
 use Rattle.placed.proofs.Listing.{listing-card}
-use Rattle.measuring.specs.declared.Written.TheVariants.{Full, Length}
 use Rattle.measuring.specs.Measured.{whole_output}
 use Rattle.measured.proofs.Sound.{Result as Unweighed, few-full as unweighed-few, whole-sound}
 use Rattle.modules.specs.Modules.{module_made, card_made}
@@ -67,7 +66,7 @@ two-each n e =
     by-test (ltb n (2 * e)) (λ t. lt-ltb (n / 2) e (let l = ltb-true n (2 * e) t in omega (arith, l)) ∙ sym t)
     (λ t. le-ltb (n / 2) e (let l = ltb-false n (2 * e) t in omega (arith, l)) ∙ sym t)
 
-module _ (pass : Pass) (card root : Bytes) (n : ℕ) (sound : admitted (asked pass) card root n ≡ Sound)
+module _ (pass : Pass) (card root : Bytes) (n : ℕ) (sound : admitted (asked pass) card root n ≡ Ok tt)
     (bc : (i : ℕ) → get_or card i 0 < 256) (br : (i : ℕ) → get_or root i 0 < 256) where
   abbrev Output : Record
   Output = apply (asked pass) (tree root) (tree card)
@@ -83,10 +82,10 @@ module _ (pass : Pass) (card root : Bytes) (n : ℕ) (sound : admitted (asked pa
   FullAt most = full_table (asked pass) most (deep (tree card)) (tree card) (MSel (tree root) (name_of (tree card))) 0
 
   -- the walks that weigh and that write do this pass
-  plain-sound : admitted (operation_of (plain_of pass)) card root n ≡ Sound
+  plain-sound : admitted (operation_of (plain_of pass)) card root n ≡ Ok tt
   plain-sound = rw (pass-plain pass) sound
 
-  weighed-sound : admitted (operation_of (weighed_of pass)) card root n ≡ Sound
+  weighed-sound : admitted (operation_of (weighed_of pass)) card root n ≡ Ok tt
   weighed-sound = rw (pass-weighed pass) sound
 
   reads : Reads card root 8
@@ -131,8 +130,8 @@ module _ (pass : Pass) (card root : Bytes) (n : ℕ) (sound : admitted (asked pa
       whether (FullAt most) (cond (ltb (length out) (length Whole)) no_room (cond (ltb (length list) (2 * length Places)) few_words done)) full
 
   pub record Result (words list : List ℕ) (out : Bytes) (o : Placing) : Type 0 where
-    pub answer-is : o.answer ≡ Chosen (room words) out list (λ place. listed (FullTable place) 0) (listed NoSpace 0) (listed ShortList 0)
-        (listed (Shortened (length Whole)) (length Places))
+    pub answer-is : o.answer ≡ Chosen (room words) out list (λ place. listed (Err (FullTable place)) 0) (listed (Err NoSpace) 0) (listed (Err ShortList) 0)
+        (listed (Ok (length Whole)) (length Places))
     pub out-is : o.out ≡ Chosen (room words) out list (λ place. out) out out (Whole ++ drop (length Whole) out)
     pub list-is : o.list ≡ Chosen (room words) out list (λ place. list) list list (entry_words Places ++ drop (2 * length Places) list)
     pub words_long : length o.words ≡ length words
@@ -218,7 +217,7 @@ module _ (pass : Pass) (card root : Bytes) (n : ℕ) (sound : admitted (asked pa
         written : Unweighed (plain_of pass) card root n plain-sound bc br words out (whole_output (plain_of pass) card root words out)
         written = whole-sound (plain_of pass) card root n plain-sound bc br (plain-weight pass) words out
 
-        answer-is : (whole_output (plain_of pass) card root words out).answer ≡ whether (FullAt (room words)) (Length (length Whole)) Full
+        answer-is : (whole_output (plain_of pass) card root words out).answer ≡ whether (FullAt (room words)) (Ok (length Whole)) (λ place. Err (FullTable place))
         answer-is = rw (pass-plain pass) at written.answer-is
 
         out-is : (whole_output (plain_of pass) card root words out).out

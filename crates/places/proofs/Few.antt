@@ -1,5 +1,6 @@
 -- HOW MANY ENTRIES A LIST CAN HAVE, by the card alone: at most one for every twelve bytes. A path type or a path expression that is shortened has at
 -- least 24; it brings one entry, and what it is charged pays for the entries of its module's uses, of which each has at least 37 bytes. Assumes nothing.
+use Rattle.std.specs.Prelude.{Ok}
 use mathlib.Core.Path.{◌≡◌, refl, sym, ap, subst, ◌∙◌}
 use mathlib.Core.Bool.{Bool, true, false, ◌&&◌, and-false}
 use mathlib.Core.List.{List, [], ◌∷◌}
@@ -8,7 +9,6 @@ use native.Mathlib.Omega.{arith}
 use lib.ListN.{length, length-append}
 use lib.Dec.{eqb, leb}
 use borrow.Author.Tests.{eqb-true, lt-ltb, le-ltb}
-use Rattle.answers.specs.declared.Verdict.TheVariants.{Sound}
 use Rattle.wire.specs.Numbers.{Bytes, AreBytes}
 use Rattle.records.specs.Record.{Record, Records, leaf, node, nil, ◌▸◌, ◌▸▸◌, children, encode, count, map_all, set_nth, nth, deep, is, tree}
 use Rattle.records.specs.Kinds.{kinds, mod', these, any, row_of, content_at}
@@ -288,7 +288,7 @@ module _ (again : Bool) where
       ⨾ (λ f. rw (extern-walk O (suc n) S m f, unchanged at m) (omega arith))) h
 
   -- THE LAW, of a card's bytes that read sound, whatever the root
-  pub card-few : (root : Path) (card : Bytes) → AreBytes card → reading O.card_depth O.outermost card ≡ Sound
+  pub card-few : (root : Path) (card : Bytes) → AreBytes card → reading O.card_depth O.outermost card ≡ Ok tt
       → 12 * length (places_of 0 (tree card) (apply O root (tree card))) ≤ length card
   unfolding apply
   card-few root card b e =

@@ -1,5 +1,6 @@
 -- What an answer with a list says: of an acceptance demand 3 holds and the list is exact; a refusal leaves the out buffer and the list.
 -- The work words are those without a list. Assumes nothing.
+use Rattle.std.specs.Prelude.{Ok, Err}
 use mathlib.Core.Path.{◌≡◌, refl, ap, ap₂, sym, subst, ◌∙◌}
 use mathlib.Core.Bool.{Bool, false, true≢false}
 use mathlib.Core.List.{List, [], ◌++◌, append-nil}
@@ -10,7 +11,7 @@ use lib.ListN.{length, take, drop, length-append, length-drop}
 use lib.Seq.{take-append_seam}
 use lib.Dec.{eqb, ltb}
 use borrow.Author.Tests.{ltb-false, eqb-false}
-use Rattle.answers.specs.declared.Answer.TheVariants.{Shortened, ShortList}
+use Rattle.answers.specs.declared.Refusal.TheVariants.{ShortList}
 use Rattle.answers.specs.Answers.{number}
 use Rattle.wire.specs.Numbers.{Bytes, AreBytes}
 use Rattle.records.specs.Record.{Record, leaf, node, encode, tree, children, nth, count}
@@ -49,13 +50,13 @@ module _ (again : Bool) (card root out : Bytes) (work list : List ℕ) where
 
   -- what is so of an acceptance
   pub record Accepts (n : ℕ) : Type 0 where
-    pub answer : O.answer ≡ Shortened n
+    pub answer : O.answer ≡ Ok n
     pub out-is : L.out ≡ O.out
     pub entries-are : L.entries ≡ length Places
     pub list-is : L.list ≡ entry_words Places ++ drop (2 * length Places) list
     pub room : ltb (length list) (2 * length Places) ≡ false
 
-  pub accepts : (n : ℕ) → L.answer ≡ Shortened n → Accepts n
+  pub accepts : (n : ℕ) → L.answer ≡ Ok n → Accepts n
   unfolding shorten_listing
   accepts n h =
       by-test (eqb (number O.answer) 0)
@@ -73,7 +74,7 @@ module _ (again : Bool) (card root out : Bytes) (work list : List ℕ) where
       (λ t. rw t ((left (shortening again) card root out work).1 t, refl, refl))
 
   -- the work words are those without a list; so is the answer, but for 10
-  pub as-without : (L.work ≡ O.work) × ((L.answer ≡ ShortList → ⊥) → L.answer ≡ O.answer)
+  pub as-without : (L.work ≡ O.work) × ((L.answer ≡ (Err ShortList) → ⊥) → L.answer ≡ O.answer)
   unfolding shorten_listing
   as-without =
       by-test (eqb (number O.answer) 0)
@@ -94,7 +95,7 @@ module _ (again : Bool) (card root out : Bytes) (work list : List ℕ) where
       omega (arith, a, b, c, d))))
       (λ t. rw t)
 
-  module _ (bc : AreBytes card) (br : AreBytes root) (n : ℕ) (h : L.answer ≡ Shortened n) where
+  module _ (bc : AreBytes card) (br : AreBytes root) (n : ℕ) (h : L.answer ≡ Ok n) where
     -- demand 3
     pub names-hold : NamesHold (shortening again) card root (take n L.out)
     names-hold =

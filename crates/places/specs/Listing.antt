@@ -1,7 +1,7 @@
 -- 02, request 1: what shortening answers with a lent list, and what the lent memory then holds. Assumes nothing: these are definitions.
-use Rattle.std.specs.Prelude.{List, ◌++◌, cond, ℕ, ◌*◌, length, drop, eqb, ltb}
-use Rattle.answers.specs.declared.Answer.{Answer}
-use Rattle.answers.specs.declared.Answer.TheVariants.{ShortList}
+use Rattle.std.specs.Prelude.{List, ◌++◌, cond, ℕ, ◌*◌, length, drop, eqb, ltb, Err}
+use Rattle.answers.specs.Answers.{Answer}
+use Rattle.answers.specs.declared.Refusal.TheVariants.{ShortList}
 use Rattle.answers.specs.Answers.{number}
 use Rattle.wire.specs.Numbers.{Bytes}
 use Rattle.records.specs.Record.{tree}
@@ -29,7 +29,7 @@ module _ (op : Operation) (card root out : Bytes) (work list : List ℕ) where
   -- 10, where the list has fewer than two words for each entry, or acceptance
   abbrev pub accepted : Outcome → Listing
   accepted o =
-      cond (ltb (length list) (2 * length places)) (listing ShortList 0 out o.work list)
+      cond (ltb (length list) (2 * length places)) (listing (Err ShortList) 0 out o.work list)
       (listing o.answer (length places) o.out o.work (entry_words places ++ drop (2 * length places) list))
 
   -- a refusal by 1 to 9 or by 11 comes first, and leaves the list

@@ -4,47 +4,45 @@
 #![tactic(auto)]
 
 ghost use Rattle.std.specs.Prelude.{◌≡◌, []};
-ghost use Rattle.placing.specs.Placing.{tally_of, weighed_made, placing, counted_first, listed_after, placed};
+ghost use Rattle.placing.specs.Placing.{measured, weighed_made, placing, counted_first, listed_after, placed};
 
-use answers::Answer;
-use measuring::Written;
+use answers::{Answer, Refusal};
 use operation::Pass;
 
 #[derive(Clone, Copy)]
 pub struct Tally {
-    // the place after that of the first module whose table is full, or 0
-    pub full: usize,
     pub length: usize,
     pub entries: usize,
 }
 
-#[derive(Clone, Copy)]
+// An acceptance: how long the output is, and how many entries the list has, two words each.
+#[derive(Clone, Copy, PartialEq, Eq)]
 pub struct Listed {
-    pub answer: Answer,
-    // how many entries the list has, two words each; 0 where the answer is a refusal
+    pub length: usize,
     pub entries: usize,
 }
 
 // Leaves the out buffer.
-fn measure(pass: Pass, card: &[u8], root: &[u8], out: &mut [u8], work: &mut [u32]) -> Tally
-    ensures { (result ≡ tally_of (weighed_made pass card.now root.now work.old)) × (out.new ≡ out.old)
+fn measure(
+    pass: Pass,
+    card: &[u8],
+    root: &[u8],
+    out: &mut [u8],
+    work: &mut [u32],
+) -> Result<Tally, Refusal>
+    ensures { (result ≡ measured (weighed_made pass card.now root.now work.old)) × (out.new ≡ out.old)
         × (work.new ≡ (weighed_made pass card.now root.now work.old).held.words) }
 {
-    let m = writing::write_card(
-        operation::weighed(pass),
-        card,
-        root,
-        &mut out[..0],
-        work,
-        65537,
-        0,
-    );
+    let op = operation::weighed(pass);
+    let m = writing::write_card(op, card, root, &mut out[..0], work, tables::NONE);
+    if let Some(place) = m.full {
+        return Err(Refusal::FullTable(place));
+    }
     let n = m.length;
-    Tally {
-        full: m.full,
+    Ok(Tally {
         length: n % 16777216,
         entries: n / 16777216,
-    }
+    })
 }
 
 fn count_first(
@@ -54,63 +52,40 @@ fn count_first(
     out: &mut [u8],
     work: &mut [u32],
     list: &mut [u32],
-) -> Listed
+) -> Result<Listed, Refusal>
     ensures { placing result out.new work.new list.new
         ≡ counted_first pass card.now root.now work.old list.old out.old }
 {
-    let t = measure(pass, card, root, out, work);
-    let full = t.full;
-    if 0 < full {
-        return Listed {
-            answer: Answer::FullTable(full - 1),
-            entries: 0,
-        };
-    }
+    let t = measure(pass, card, root, out, work)?;
     let n = t.length;
     if out.len() < n {
-        return Listed {
-            answer: Answer::NoSpace,
-            entries: 0,
-        };
+        return Err(Refusal::NoSpace);
     }
     let k = t.entries;
     if list.len() / 2 < k {
-        return Listed {
-            answer: Answer::ShortList,
-            entries: 0,
-        };
+        return Err(Refusal::ShortList);
     }
-    writing::write_card(operation::plain(pass), card, root, out, work, 65537, 0);
+    writing::write_card(operation::plain(pass), card, root, out, work, tables::NONE);
     listing::list_places(card, &out[..n], list);
-    Listed {
-        answer: Answer::Shortened(n),
+    Ok(Listed {
+        length: n,
         entries: k,
-    }
+    })
 }
 
 // What was written, listed.
-fn list_after(w: Written, card: &[u8], out: &[u8], list: &mut [u32]) -> Listed
-    ensures { placing result out.now [] list.new ≡ listed_after card.now w out.now [] list.old }
+fn list_after(written: Answer, card: &[u8], out: &[u8], list: &mut [u32]) -> Result<Listed, Refusal>
+    ensures { placing result out.now [] list.new ≡ listed_after card.now written out.now [] list.old }
 {
-    match w {
-        Written::Full(place) => Listed {
-            answer: Answer::FullTable(place),
-            entries: 0,
-        },
-        Written::Length(n) => {
-            if out.len() < n {
-                return Listed {
-                    answer: Answer::NoSpace,
-                    entries: 0,
-                };
-            }
-            let k = listing::list_places(card, &out[..n], list);
-            Listed {
-                answer: Answer::Shortened(n),
-                entries: k,
-            }
-        }
+    let n = written?;
+    if out.len() < n {
+        return Err(Refusal::NoSpace);
     }
+    let k = listing::list_places(card, &out[..n], list);
+    Ok(Listed {
+        length: n,
+        entries: k,
+    })
 }
 
 pub fn write_places(
@@ -120,7 +95,7 @@ pub fn write_places(
     out: &mut [u8],
     work: &mut [u32],
     list: &mut [u32],
-) -> Listed
+) -> Result<Listed, Refusal>
     ensures { placing result out.new work.new list.new
         ≡ placed pass card.now root.now work.old list.old out.old }
 {

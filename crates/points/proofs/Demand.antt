@@ -1,11 +1,11 @@
 -- Demand 3, whole, of the definitions. Assumes nothing.
+use Rattle.std.specs.Prelude.{Ok}
 use mathlib.Core.Path.{◌≡◌, refl, ap, ap₂, sym, subst, ◌∙◌}
 use mathlib.Core.Bool.{Bool}
 use Prim.Native.Nat.{◌^◌, ◌<◌}
 use native.Mathlib.Nat.{le_refl}
 use lib.ListN.{length, take, drop}
 use lib.Seq.{take-append_seam}
-use Rattle.answers.specs.declared.Verdict.TheVariants.{Sound}
 use Rattle.wire.specs.Numbers.{Bytes, AreBytes}
 use Rattle.records.specs.Record.{Record, encode, tree, deep}
 use Rattle.records.specs.Kinds.{path, mod'}
@@ -33,7 +33,7 @@ unfolding apply
 apply-point op N C alike root m f = module-point op N C alike (deep m) (outside op root) m f (le_refl (deep m))
 
 -- of the bytes of a card and a root that are sound, if what is put out is not too long to be read back
-pub names-hold : (again : Bool) (card root : Bytes) → AreBytes card → AreBytes root → reading 48 mod' card ≡ Sound → reading 8 path root ≡ Sound
+pub names-hold : (again : Bool) (card root : Bytes) → AreBytes card → AreBytes root → reading 48 mod' card ≡ Ok tt → reading 8 path root ≡ Ok tt
     → length (encode (apply (shortening again) (tree root) (tree card))) < 2 ^ 32 →
     NamesHold (shortening again) card root (encode (apply (shortening again) (tree root) (tree card)))
 names-hold again card root b c s r short =

@@ -1,6 +1,5 @@
 -- 01, "Points and looking up", its first paragraph, and demand 3. Assumes nothing: these are definitions.
-use Rattle.std.specs.Prelude.{◌≡◌, List, [], true, false, ◌&&◌, cond, ℕ, suc, ◌-◌, take, eqb}
-use Rattle.answers.specs.declared.Answer.TheVariants.{Shortened}
+use Rattle.std.specs.Prelude.{◌≡◌, List, [], true, false, ◌&&◌, cond, ℕ, suc, ◌-◌, take, eqb, Ok}
 use Rattle.wire.specs.Numbers.{Bytes, AreBytes}
 use Rattle.records.specs.Record.{Record, Records, leaf, node, nil, ◌▸◌, kind, children, field, update, put, count, first, skip, encode, tree}
 use Rattle.rast.specs.Path.{Name, Path, MSel}
@@ -107,4 +106,4 @@ module _ (op : Operation) where
   abbrev pub Demand3 : Type 0
   Demand3 =
       (card root out : Bytes) (work : List ℕ) (n : ℕ) → AreBytes card → AreBytes root →
-      (shorten op card root out work).answer ≡ Shortened n → NamesHold card root (take n (shorten op card root out work).out)
+      (shorten op card root out work).answer ≡ Ok n → NamesHold card root (take n (shorten op card root out work).out)

@@ -5,6 +5,7 @@ use Rattle.records.specs.Record.{record_bytes, record_at}
 use Rattle.rast.specs.Operation.{Operation}
 use Rattle.operation.specs.declared.Shortening.{Shortening}
 use Rattle.operation.specs.Operations.{operation_of}
+use Rattle.prefix.specs.declared.Scope as Lent
 
 -- PMemberSelect(base, name), of the bytes of base and of name's record
 abbrev pub selection : Bytes → Bytes → Bytes
@@ -41,6 +42,10 @@ pub record Scope : Type 0 where
 
 abbrev pub scope : Shortening → (card root : Bytes) → List ℕ → Scope
 scope op card root chain = record { op = op; card = card; root = root; chain = chain }
+
+-- the same of the code's, which lends the card, the root and the chain
+abbrev pub scope_of : Lent.Scope → Scope
+scope_of s = scope s.op s.card.now s.root.now s.chain.now
 
 abbrev pub prefix_in : Scope → Bytes
 prefix_in s = prefix_of (operation_of s.op) s.card s.root s.chain

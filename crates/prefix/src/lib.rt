@@ -4,9 +4,18 @@
 ghost use Rattle.std.specs.Prelude.{◌≡◌};
 ghost use Rattle.wire.specs.Numbers.{same_bytes};
 ghost use Rattle.operation.specs.Operations.{operation_of};
-ghost use Rattle.prefix.specs.Prefix.{is_selection, twice, scope, prefix_in};
+ghost use Rattle.prefix.specs.Prefix.{is_selection, twice, scope_of, prefix_in};
 
 use operation::Shortening;
+
+// What a module's names and bases are read in: which shortening, the card, the root, and the places of the names of the modules around it and of its own.
+#[derive(Clone, Copy)]
+pub struct Scope<'a> {
+    pub op: Shortening,
+    pub card: &'a [u8],
+    pub root: &'a [u8],
+    pub chain: &'a [usize],
+}
 
 // Whether a path is PMemberSelect of something and the name whose record this is. Its head comes last: most paths that are not end in another name.
 fn selects(path: &[u8], name: &[u8]) -> bool
@@ -49,21 +58,21 @@ fn stands_twice(op: Shortening, i: usize) -> bool
 }
 
 // From the last name to the first: most paths that are not the prefix differ in their last name.
-pub fn is_prefix(op: Shortening, path: &[u8], card: &[u8], root: &[u8], chain: &[usize]) -> bool
-    ensures { result ≡ same_bytes path.now (prefix_in (scope op card.now root.now chain.now)) }
+pub fn is_prefix(scope: &Scope<'_>, path: &[u8]) -> bool
+    ensures { result ≡ same_bytes path.now (prefix_in (scope_of scope.now)) }
 {
     let mut from = 0;
     let mut to = path.len();
-    let mut i = chain.len();
+    let mut i = scope.chain.len();
     while 0 < i {
         i -= 1;
-        let name = reader::record_at(card, chain[i]);
+        let name = reader::record_at(scope.card, scope.chain[i]);
         if !selects(&path[from..to], name) {
             return false;
         }
         from += 6;
         to -= name.len();
-        if stands_twice(op, i) {
+        if stands_twice(scope.op, i) {
             if !selects(&path[from..to], name) {
                 return false;
             }
@@ -71,5 +80,5 @@ pub fn is_prefix(op: Shortening, path: &[u8], card: &[u8], root: &[u8], chain: &
             to -= name.len();
         }
     }
-    wire::same(&path[from..to], root)
+    wire::same(&path[from..to], scope.root)
 }

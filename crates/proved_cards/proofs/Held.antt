@@ -1,9 +1,9 @@
 -- P3, P8 and P13 meet demand 3's premises and its conclusion, by computation: the statement is not empty; and what the old operation makes of P13 does not meet
 -- straight shortening's. Assumes nothing.
+use Rattle.std.specs.Prelude.{Ok}
 use mathlib.Core.Path.{◌≡◌, refl, ap}
 use mathlib.Core.Bool.{true, false≢true}
 use mathlib.Core.List.{[], ◌∷◌}
-use Rattle.answers.specs.declared.Verdict.TheVariants.{Sound}
 use Rattle.wire.specs.Numbers.{le, num, same_bytes}
 use Rattle.records.specs.Record.{leaf, node, nil, ◌▸◌, text, field, deep, encode, parse, nth, tree, set_nth, ◌▸▸◌, count, skip, first, FoldLeft, map_all}
 use Rattle.records.specs.Kinds.{row_of, content_at}
@@ -39,7 +39,7 @@ unfolding unmarked_all le num same_bytes deep encode parse nth tree set_nth ◌�
     PathSimplifier mappings paths_to_remove imports apply_prefix apply
 P3-supposed = refl
 
-pub P3-sound : reading 48 mod' (encode P3-card) ≡ Sound
+pub P3-sound : reading 48 mod' (encode P3-card) ≡ Ok tt
 unfolding le num same_bytes deep encode parse nth tree set_nth ◌▸▸◌ count skip first FoldLeft map_all row_of content_at read reading same_path Mod-as-Fold Fold Replace
     VisitType VisitTypeParams VisitFields VisitFn VisitMember VisitBody VisitImplMapping VisitUse VisitTopFn VisitTraitDecl VisitStructMapping VisitModMapping
     VisitMod ReplaceType ReplaceExpr ReplaceFields ReplaceTypeParams ReplaceFn ReplaceImplMember ReplaceBody ReplaceUse ReplaceTopFn ReplaceTrait

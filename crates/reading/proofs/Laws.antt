@@ -1,4 +1,5 @@
 -- The laws by which reading goes record by record, with the depth that is left. Assumes nothing.
+use Rattle.std.specs.Prelude.{Ok, Err}
 use mathlib.Core.Path.{◌≡◌, refl, ap, ap₂, ◌∙◌}
 use mathlib.Core.List.{List, [], ◌∷◌}
 use mathlib.Core.Bool.{Bool, true, false, not, cond}
@@ -8,10 +9,9 @@ use mathlib.Core.Option.{none, some}
 use lib.ListN.{length, drop}
 use lib.Dec.{leb-suc-suc}
 use borrow.Author.Tests.{le-ltb}
-use Rattle.answers.specs.declared.Answer.{Answer}
-use Rattle.answers.specs.declared.Answer.TheVariants.{ShortRecord, WrongKind, TooDeep, LeftOver, NoName}
-use Rattle.answers.specs.declared.Verdict.{Verdict}
-use Rattle.answers.specs.declared.Verdict.TheVariants.{Sound, Refused}
+use Rattle.answers.specs.declared.Refusal.{Refusal}
+use Rattle.answers.specs.declared.Refusal.TheVariants.{ShortRecord, WrongKind, TooDeep, LeftOver, NoName}
+use Rattle.answers.specs.Answers.{Verdict}
 use Rattle.wire.specs.Numbers.{Bytes}
 use Rattle.records.specs.Record.{length_of, kind_of, content_of, rest_of}
 use Rattle.records.specs.Kinds.{Place, stands, Content, bytes, these, any, at_most_one, content_at}
@@ -44,15 +44,15 @@ pub reads-enough : (left n : ℕ) (c : Content) (at : ℕ) (s : Bytes) → lengt
 unfolding reads
 reads-enough left n c at s h = read_same left n (suc (length s)) c 1 at s h (omega arith)
 
-refused : (a b : Bool) (x y z : Answer) (v : Verdict)
-    → cond a (Refused x) (cond b (Refused y) (Refused z)) ≡ and_then (cond a (Refused x) (cond b (Refused y) (Refused z))) v
+refused : (a b : Bool) (x y z : Refusal) (v : Verdict)
+    → cond a (Err x) (cond b (Err y) (Err z)) ≡ and_then (cond a (Err x) (cond b (Err y) (Err z))) v
 refused true b x y z v = refl
 refused false true x y z v = refl
 refused false false x y z v = refl
 
-passed : (a b c : Bool) (x y z : Answer) (v w v' w' : Verdict) → (a ≡ false → v ≡ v') → (a ≡ false → w ≡ w')
-    → cond a (Refused x) (cond b (Refused y) (cond c (Refused z) (and_then v w)))
-    ≡ and_then (cond a (Refused x) (cond b (Refused y) (cond c (Refused z) v'))) w'
+passed : (a b c : Bool) (x y z : Refusal) (v w v' w' : Verdict) → (a ≡ false → v ≡ v') → (a ≡ false → w ≡ w')
+    → cond a (Err x) (cond b (Err y) (cond c (Err z) (and_then v w)))
+    ≡ and_then (cond a (Err x) (cond b (Err y) (cond c (Err z) v'))) w'
 passed true b c x y z v w v' w' f g = refl
 passed false true c x y z v w v' w' f g = refl
 passed false false true x y z v w v' w' f g = refl
@@ -81,20 +81,20 @@ unfolding reads read
 reads-record left c at s p more e = rw e (at-record left at s p more)
 
 -- nothing more, and bytes that should not be there
-pub reads-done : (left : ℕ) (c : Content) (at : ℕ) (s : Bytes) → next c s ≡ done → reads left c at s ≡ Sound
+pub reads-done : (left : ℕ) (c : Content) (at : ℕ) (s : Bytes) → next c s ≡ done → reads left c at s ≡ Ok tt
 unfolding reads read
 reads-done left c at s e = rw e
 
-pub reads-left_over : (left : ℕ) (c : Content) (at : ℕ) (s : Bytes) → next c s ≡ left_over → reads left c at s ≡ Refused (LeftOver at)
+pub reads-left_over : (left : ℕ) (c : Content) (at : ℕ) (s : Bytes) → next c s ≡ left_over → reads left c at s ≡ Err (LeftOver at)
 unfolding reads read
 reads-left_over left c at s e = rw e
 
 -- a record of no bytes is short
-pub reads_none : (left : ℕ) (c : Content) (at : ℕ) (p : Place) (more : Content) → next c [] ≡ record-at p more → reads left c at [] ≡ Refused (ShortRecord at)
+pub reads_none : (left : ℕ) (c : Content) (at : ℕ) (p : Place) (more : Content) → next c [] ≡ record-at p more → reads left c at [] ≡ Err (ShortRecord at)
 unfolding reads_record
 reads_none left c at p more e = reads-record left c at [] p more e ∙ go left
   where
-    go : (left : ℕ) → and_then (reads_record left p at []) (reads left more (at + (4 + length_of [])) (rest_of [])) ≡ Refused (ShortRecord at)
+    go : (left : ℕ) → and_then (reads_record left p at []) (reads left more (at + (4 + length_of [])) (rest_of [])) ≡ Err (ShortRecord at)
     go zero = refl
     go (suc left) = refl
 

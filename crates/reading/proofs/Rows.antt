@@ -1,5 +1,6 @@
 -- The laws of rows: what comes next in the content that a row stands for, what is left after one record, and which row a record holds.
 -- Assumes nothing.
+use Rattle.std.specs.Prelude.{Ok, Err}
 use mathlib.Core.Path.{◌≡◌, refl, ap, sym, ◌∙◌}
 use mathlib.Core.List.{List, [], ◌∷◌, map}
 use mathlib.Core.Bool.{Bool, true, cond}
@@ -10,8 +11,8 @@ use native.Mathlib.Decide.{dec_le}
 use lib.ListN.{length, get_or}
 use lib.Dec.{eqb, ltb}
 use borrow.Author.Tests.{eqb-true, eqb-false, ltb-false, le-leb, lt-leb, eq-eqb, ne_eqb}
-use Rattle.answers.specs.declared.Answer.TheVariants.{ShortRecord}
-use Rattle.answers.specs.declared.Verdict.TheVariants.{Sound, Refused}
+use Rattle.answers.specs.Answers.{Verdict}
+use Rattle.answers.specs.declared.Refusal.TheVariants.{ShortRecord}
 use Rattle.wire.specs.Numbers.{Bytes, num}
 use Rattle.records.specs.Kinds.{Place, stands, row_of, Content, bytes, these, any, at_most_one, content_at}
 use Rattle.records.specs.Reading.{left_over, record-at, next}
@@ -126,7 +127,7 @@ content-of-one p n h =
     content-fields p (omega arith) ∙ ap these (places-some 7 p (λ x. omega arith) ∙ rw (e, z, places-none 7 0 refl))
 
 -- no bytes are left
-pub row-end : (left at row : ℕ) → Good row → reads left (row_content row) at [] ≡ cond (row_ends row) Sound (Refused (ShortRecord at))
+pub row-end : (left at row : ℕ) → Good row → reads left (row_content row) at [] ≡ cond (row_ends row) (Ok tt) (Err (ShortRecord at))
 row-end left at row (again m p l) = rw (content-again row m, ends-again row m) (reads-done left (any (place_of (row % 256))) at [] refl)
 row-end left at row (fields m v) =
     ap (λ (c : Content). reads left c at []) (content-fields row m)
@@ -209,7 +210,7 @@ unfolding row_in
 in-option p k h = rw (le-leb 64 p h)
 
 -- a List's kind has no row
-list-ends : (at k : ℕ) → k ≡ 2 → Sound ≡ cond (row_ends (num (map code_of (row_of k)))) Sound (Refused (ShortRecord at))
+list-ends : (at k : ℕ) → k ≡ 2 → ◌≡◌ {A = Verdict} (Ok tt) (cond (row_ends (num (map code_of (row_of k)))) (Ok tt) (Err (ShortRecord at)))
 unfolding row_of code_of num row_ends
 list-ends at k e = rw e
 
@@ -262,7 +263,7 @@ module _ (p k : ℕ) (v : Valid p) where
         ∙ ap (λ (c : Content). reads left c at s) (sym (content-option p k h l)))
 
     -- a record that holds nothing
-    pub inner-empty : reads left (content_at (place_of p) k) at [] ≡ cond (row_ends (num (map code_of (row_of k)))) Sound (Refused (ShortRecord at))
+    pub inner-empty : reads left (content_at (place_of p) k) at [] ≡ cond (row_ends (num (map code_of (row_of k)))) (Ok tt) (Err (ShortRecord at))
     inner-empty =
         ranges p
         (λ h. ap (λ (c : Content). reads left c at []) (kind-content h ∙ sym (row-content k)) ∙ row-end left at (row_number k) (row-good k))

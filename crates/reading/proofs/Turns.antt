@@ -1,4 +1,5 @@
 -- The loop over a row's records, turn by turn, as the code has it in hand: what is left to read gives the answer. Assumes nothing.
+use Rattle.std.specs.Prelude.{Ok, Err}
 use mathlib.Core.Path.{◌≡◌, refl, ap, ap₂, sym, ◌∙◌}
 use mathlib.Core.List.{map}
 use mathlib.Core.Bool.{Bool, true, false, not, cond}
@@ -6,10 +7,9 @@ use Prim.Native.Nat.{ℕ, zero, suc, ◌+◌, ◌-◌, ◌*◌, ◌/◌, ◌%◌
 use native.Mathlib.Omega.{arith}
 use lib.ListN.{length, take, drop, length-take, length-drop}
 use borrow.Author.Tests.{ne_eqb, lt-ltb, le-ltb, not-true, not-false}
-use Rattle.answers.specs.declared.Answer.{Answer}
-use Rattle.answers.specs.declared.Answer.TheVariants.{ShortRecord, WrongKind, TooDeep, LeftOver, NoName}
-use Rattle.answers.specs.declared.Verdict.{Verdict}
-use Rattle.answers.specs.declared.Verdict.TheVariants.{Sound, Refused}
+use Rattle.answers.specs.declared.Refusal.{Refusal}
+use Rattle.answers.specs.declared.Refusal.TheVariants.{ShortRecord, WrongKind, TooDeep, LeftOver, NoName}
+use Rattle.answers.specs.Answers.{Verdict}
 use Rattle.wire.specs.Numbers.{Bytes, num, between}
 use Rattle.wire.proofs.Less.{less}
 use Rattle.wire.proofs.Within.{Within, within_all, within-take, within-drop, within-own}
@@ -21,28 +21,28 @@ use Rattle.rows.specs.Codes.{place_of, code_of}
 use Rattle.rows.proofs.Codes.{leaf-bytes}
 use Rattle.rows.proofs.Names.{no-name-due}
 use Rattle.reading.specs.Reads.{reads, reads_record}
-use Rattle.reading.specs.Codes.{row_content, row_after, row_ends, row_in, Good, fault_of, said}
+use Rattle.reading.specs.Codes.{row_content, row_after, row_ends, row_in, Good}
 use Rattle.reading.proofs.Laws.{reads-record, reads-done, reads-left_over}
 use Rattle.reading.proofs.Rows.{next-none, next-some, good-after, good-valid, row-end, inner-good, inner-reads, inner-empty}
 
 -- one record's tests, in their order
-pub record-short : (left at : ℕ) (p : Place) (s : Bytes) → short s ≡ true → reads_record left p at s ≡ Refused (ShortRecord at)
+pub record-short : (left at : ℕ) (p : Place) (s : Bytes) → short s ≡ true → reads_record left p at s ≡ Err (ShortRecord at)
 unfolding reads_record
 record-short zero at p s y = rw y
 record-short (suc left) at p s y = rw y
 
-record-wrong : (left at : ℕ) (p : Place) (s : Bytes) → short s ≡ false → stands p (kind_of s) ≡ false → reads_record left p at s ≡ Refused (WrongKind at)
+record-wrong : (left at : ℕ) (p : Place) (s : Bytes) → short s ≡ false → stands p (kind_of s) ≡ false → reads_record left p at s ≡ Err (WrongKind at)
 unfolding reads_record
 record-wrong zero at p s y x = rw (y, x)
 record-wrong (suc left) at p s y x = rw (y, x)
 
-record-deep : (left at : ℕ) (p : Place) (s : Bytes) → short s ≡ false → stands p (kind_of s) ≡ true → left ≡ 0 → reads_record left p at s ≡ Refused (TooDeep at)
+record-deep : (left at : ℕ) (p : Place) (s : Bytes) → short s ≡ false → stands p (kind_of s) ≡ true → left ≡ 0 → reads_record left p at s ≡ Err (TooDeep at)
 unfolding reads_record
 record-deep zero at p s y x z = rw (y, x)
 record-deep (suc left) at p s y x z = absurd (omega arith)
 
 record-nameless : (left at : ℕ) (p : Place) (s : Bytes) → short s ≡ false → stands p (kind_of s) ≡ true → (left ≡ 0 → ⊥)
-    → nameless p (kind_of s) (content_of s) ≡ true → reads_record left p at s ≡ Refused (NoName at)
+    → nameless p (kind_of s) (content_of s) ≡ true → reads_record left p at s ≡ Err (NoName at)
 unfolding reads_record
 record-nameless zero at p s y x z m = absurd (z refl)
 record-nameless (suc left) at p s y x z m = rw (y, x, m)
@@ -53,67 +53,6 @@ unfolding reads_record
 record-inside zero at p s y x z m = absurd (z refl)
 record-inside (suc left) at p s y x z m =
     rw (y, x, m) (ap (λ (m : ℕ). reads m (content_at p (kind_of s)) (at + 6) (content_of s)) (let o : left ≡ suc left - 1 = omega arith in o))
-
--- what the number of a refusal says
-fault : (n at : ℕ) → 0 < n → n < 8 → said (8 * at + n) ≡ Refused (fault_of n at)
-unfolding said
-fault n at l h =
-    let a : (8 * at + n) % 8 ≡ n = omega arith in
-    let b : (8 * at + n) / 8 ≡ at = omega arith in
-    rw (ne_eqb (8 * at + n) 0 (λ z. omega arith), a, b)
-
-said-short : (at : ℕ) → said (8 * at + 4) ≡ Refused (ShortRecord at)
-unfolding fault_of
-said-short at = fault 4 at (omega arith) (omega arith)
-
-said-wrong : (at : ℕ) → said (8 * at + 5) ≡ Refused (WrongKind at)
-unfolding fault_of
-said-wrong at = fault 5 at (omega arith) (omega arith)
-
-said-deep : (at : ℕ) → said (8 * at + 6) ≡ Refused (TooDeep at)
-unfolding fault_of
-said-deep at = fault 6 at (omega arith) (omega arith)
-
-said-left : (at : ℕ) → said (8 * at + 7) ≡ Refused (LeftOver at)
-unfolding fault_of
-said-left at = fault 7 at (omega arith) (omega arith)
-
-said-nameless : (at : ℕ) → said (8 * at + 3) ≡ Refused (NoName at)
-unfolding fault_of
-said-nameless at = fault 3 at (omega arith) (omega arith)
-
-said-fault : (v : ℕ) → (v ≡ 0 → ⊥) → said v ≡ Refused (fault_of (v % 8) (v / 8))
-unfolding said
-said-fault v z = rw (ne_eqb v 0 z)
-
-said-none : (v : ℕ) → v ≡ 0 → said v ≡ Sound
-unfolding said
-said-none v z = rw z
-
--- the verdict that a number says
-pub verdict-sound : (v : ℕ) → v ≡ 0 → Sound ≡ said v
-verdict-sound v z = sym (said-none v z)
-
-module _ (v : ℕ) (z : v ≡ 0 → ⊥) where
-  pub verdict-short : v % 8 ≡ 4 → Refused (ShortRecord (v / 8)) ≡ said v
-  unfolding fault_of
-  verdict-short e = sym (said-fault v z ∙ rw e)
-
-  pub verdict-wrong : v % 8 ≡ 5 → Refused (WrongKind (v / 8)) ≡ said v
-  unfolding fault_of
-  verdict-wrong e = sym (said-fault v z ∙ rw e)
-
-  pub verdict-deep : v % 8 ≡ 6 → Refused (TooDeep (v / 8)) ≡ said v
-  unfolding fault_of
-  verdict-deep e = sym (said-fault v z ∙ rw e)
-
-  pub verdict-nameless : v % 8 < 4 → Refused (NoName (v / 8)) ≡ said v
-  unfolding fault_of
-  verdict-nameless h = sym (said-fault v z ∙ rw (lt-ltb (v % 8) 4 h))
-
-  pub verdict-left : 4 ≤ v % 8 → (v % 8 ≡ 4 → ⊥) → (v % 8 ≡ 5 → ⊥) → (v % 8 ≡ 6 → ⊥) → Refused (LeftOver (v / 8)) ≡ said v
-  unfolding fault_of
-  verdict-left h a b c = sym (said-fault v z ∙ rw (le-ltb (v % 8) 4 h, ne_eqb (v % 8) 4 a, ne_eqb (v % 8) 5 b, ne_eqb (v % 8) 6 c))
 
 -- where a turn stands: at place i with a row and a depth that is left, which read on give the answer w
 pub record Turn (w : Verdict) (card : Bytes) (to deep i row left : ℕ) : Type 0 where
@@ -129,32 +68,31 @@ turn-start card from to row deep g h = record { inside = h; good = g; under = om
 part_length : (card : Bytes) (i to : ℕ) → to ≤ length card → length (between card i to) ≡ to - i
 part_length card i to h = simp (length-take, length-drop) (omega arith)
 
-sound-then : (v : Verdict) → and_then v Sound ≡ v
-sound-then Sound = refl
-sound-then (Refused a) = refl
+sound-then : (v : Verdict) → and_then v (Ok tt) ≡ v
+sound-then (Ok _) = refl
+sound-then (Err a) = refl
 
 module _ {w : Verdict} {card : Bytes} {to deep i row left : ℕ} (t : Turn w card to deep i row left) where
   -- the end of the bytes
-  at-end : to ≤ i → w ≡ cond (row_ends row) Sound (Refused (ShortRecord i))
+  at-end : to ≤ i → w ≡ cond (row_ends row) (Ok tt) (Err (ShortRecord i))
   at-end h =
       let z : to - i ≡ 0 = omega arith in
       t.same ∙ ap (λ (n : ℕ). reads left (row_content row) i (take n (drop i card))) z ∙ row-end left i row t.good
 
-  pub turn_end : {b : Bool} → to ≤ i → b ≡ row_ends row → b ≡ true → said 0 ≡ w
-  turn_end h e y = said-none 0 refl ∙ sym (at-end h ∙ ap (λ (x : Bool). cond x Sound (Refused (ShortRecord i))) (sym e ∙ y))
+  pub turn_end : {b : Bool} → to ≤ i → b ≡ row_ends row → b ≡ true → Ok tt ≡ w
+  turn_end h e y = sym (at-end h ∙ ap (λ (x : Bool). cond x (Ok tt) (Err (ShortRecord i))) (sym e ∙ y))
 
-  pub turn-cut : {b : Bool} → to ≤ i → b ≡ row_ends row → b ≡ false → said (8 * i + 4) ≡ w
-  turn-cut h e y = said-short i ∙ sym (at-end h ∙ ap (λ (x : Bool). cond x Sound (Refused (ShortRecord i))) (sym e ∙ y))
+  pub turn-cut : {b : Bool} → to ≤ i → b ≡ row_ends row → b ≡ false → Err (ShortRecord i) ≡ w
+  turn-cut h e y = sym (at-end h ∙ ap (λ (x : Bool). cond x (Ok tt) (Err (ShortRecord i))) (sym e ∙ y))
 
   module _ (l : i < to) (h : to ≤ length card) where
     bytes_left : 0 < length (between card i to)
     bytes_left = let n = part_length card i to h in omega arith
 
     -- bytes that should not be there
-    pub turn-left : row % 256 ≡ 0 → said (8 * i + 7) ≡ w
+    pub turn-left : row % 256 ≡ 0 → Err (LeftOver i) ≡ w
     turn-left z =
-        said-left i
-        ∙ sym (t.same ∙ reads-left_over left (row_content row) i (between card i to) (next-none row (between card i to) t.good z bytes_left))
+        sym (t.same ∙ reads-left_over left (row_content row) i (between card i to) (next-none row (between card i to) t.good z bytes_left))
 
     -- a record at the place in the row's lowest byte, and its refusals
     module _ (z : row % 256 ≡ 0 → ⊥) where
@@ -165,20 +103,20 @@ module _ {w : Verdict} {card : Bytes} {to deep i row left : ℕ} (t : Turn w car
           ∙ reads-record left (row_content row) i (between card i to) (place_of (row % 256)) (row_content (row_after row))
           (next-some row (between card i to) t.good z bytes_left)
 
-      refused : (v : ℕ) (a : Answer) → said v ≡ Refused a → reads_record left (place_of (row % 256)) i (between card i to) ≡ Refused a → said v ≡ w
-      refused v a e r =
+      refused : {v : Verdict} (a : Refusal) → v ≡ Err a → reads_record left (place_of (row % 256)) i (between card i to) ≡ Err a → v ≡ w
+      refused a e r =
           e
           ∙ sym (at-record
           ∙ ap (λ (x : Verdict). and_then x (reads left (row_content (row_after row)) (i + (4 + length_of (between card i to))) (rest_of (between card i to)))) r)
 
       module _ {b : Bool} (f : b ≡ short (between card i to)) where
-        pub turn-short : b ≡ true → said (8 * i + 4) ≡ w
-        turn-short y = refused (8 * i + 4) (ShortRecord i) (said-short i) (record-short left i (place_of (row % 256)) (between card i to) (sym f ∙ y))
+        pub turn-short : b ≡ true → Err (ShortRecord i) ≡ w
+        turn-short y = refused (ShortRecord i) refl (record-short left i (place_of (row % 256)) (between card i to) (sym f ∙ y))
 
         module _ (y : b ≡ false) {k : ℕ} (g : k ≡ kind_of (between card i to)) {d : Bool} (q : d ≡ stands (place_of (row % 256)) k) where
-          pub turn-wrong : not d ≡ true → said (8 * i + 5) ≡ w
+          pub turn-wrong : not d ≡ true → Err (WrongKind i) ≡ w
           turn-wrong x =
-              refused (8 * i + 5) (WrongKind i) (said-wrong i)
+              refused (WrongKind i) refl
               (record-wrong left i (place_of (row % 256)) (between card i to) (sym f ∙ y)
               (sym (q ∙ ap (stands (place_of (row % 256))) g) ∙ not-true d x))
 
@@ -247,7 +185,7 @@ module _ {w : Verdict} {card : Bytes} {to deep i row left k e after : ℕ} (f : 
       (let x = f.ends in let o : i + (4 + length_of (between card i to)) ≡ e = omega arith in o) rest_part
 
   -- a sound record on
-  on : reads_record left (place_of (row % 256)) i (between card i to) ≡ Sound → Turn w card to deep e after left
+  on : reads_record left (place_of (row % 256)) i (between card i to) ≡ Ok tt → Turn w card to deep e after left
   on v =
       record {
         inside = f.inside;
@@ -262,9 +200,9 @@ module _ {w : Verdict} {card : Bytes} {to deep i row left k e after : ℕ} (f : 
   stands-there = ap (stands (place_of (row % 256))) (sym f.kind) ∙ f.standing
 
   -- too deep
-  pub turn-deep : left ≡ 0 → said (8 * i + 6) ≡ w
+  pub turn-deep : left ≡ 0 → Err (TooDeep i) ≡ w
   turn-deep o =
-      refused f.turn f.more f.whole f.some (8 * i + 6) (TooDeep i) (said-deep i)
+      refused f.turn f.more f.whole f.some (TooDeep i) refl
       (record-deep left i (place_of (row % 256)) (between card i to) f.long stands-there o)
 
   -- not too deep
@@ -275,9 +213,9 @@ module _ {w : Verdict} {card : Bytes} {to deep i row left k e after : ℕ} (f : 
     name-there x = ap₂ (nameless (place_of (row % 256))) (sym f.kind) content-part ∙ sym x
 
     -- no name
-    pub turn-nameless : {b : Bool} → b ≡ nameless (place_of (row % 256)) k (between card (i + 6) e) → b ≡ true → said (8 * i + 3) ≡ w
+    pub turn-nameless : {b : Bool} → b ≡ nameless (place_of (row % 256)) k (between card (i + 6) e) → b ≡ true → Err (NoName i) ≡ w
     turn-nameless x y =
-        refused f.turn f.more f.whole f.some (8 * i + 3) (NoName i) (said-nameless i)
+        refused f.turn f.more f.whole f.some (NoName i) refl
         (record-nameless left i (place_of (row % 256)) (between card i to) f.long stands-there deeper (name-there x ∙ y))
 
     record-reads : {b : Bool} → b ≡ nameless (place_of (row % 256)) k (between card (i + 6) e) → b ≡ false
@@ -301,20 +239,20 @@ module _ {w : Verdict} {card : Bytes} {to deep i row left k e after : ℕ} (f : 
       inner-named = record-reads (sym (no-name-due (row % 256) k (between card (i + 6) e) (λ z. omega arith))) refl
 
       module _ (n : e ≡ i + 6) {r : ℕ} (x : r ≡ num (map code_of (row_of k))) {b : Bool} (y : b ≡ row_ends r) where
-        hollow : reads_record left (place_of (row % 256)) i (between card i to) ≡ cond b Sound (Refused (ShortRecord e))
+        hollow : reads_record left (place_of (row % 256)) i (between card i to) ≡ cond b (Ok tt) (Err (ShortRecord e))
         hollow =
             let o : e - (i + 6) ≡ 0 = omega arith in
             inner-named ∙ ap (λ (m : ℕ). reads (left - 1) (content_at (place_of (row % 256)) k) (i + 6) (take m (drop (i + 6) card))) o
             ∙ inner-empty (row % 256) k (good-valid row f.turn.good) (omega arith) f.standing (left - 1) (i + 6)
-            ∙ ap₂ (λ (q : Bool) (m : ℕ). cond q Sound (Refused (ShortRecord m))) (sym (y ∙ ap row_ends x)) (sym n)
+            ∙ ap₂ (λ (q : Bool) (m : ℕ). cond q (Ok tt) (Err (ShortRecord m))) (sym (y ∙ ap row_ends x)) (sym n)
 
         pub turn-empty : not b ≡ false → Turn w card to deep e after left
-        turn-empty v = on (hollow ∙ ap (λ (q : Bool). cond q Sound (Refused (ShortRecord e))) (not-false b v))
+        turn-empty v = on (hollow ∙ ap (λ (q : Bool). cond q (Ok tt) (Err (ShortRecord e))) (not-false b v))
 
-        pub turn-hollow : not b ≡ true → said (8 * e + 4) ≡ w
+        pub turn-hollow : not b ≡ true → Err (ShortRecord e) ≡ w
         turn-hollow v =
-            refused f.turn f.more f.whole f.some (8 * e + 4) (ShortRecord e) (said-short e)
-            (hollow ∙ ap (λ (q : Bool). cond q Sound (Refused (ShortRecord e))) (not-true b v))
+            refused f.turn f.more f.whole f.some (ShortRecord e) refl
+            (hollow ∙ ap (λ (q : Bool). cond q (Ok tt) (Err (ShortRecord e))) (not-true b v))
 
       -- a record that holds others
       module _ (n : e ≡ i + 6 → ⊥) {inner : ℕ} (x : inner ≡ row_in (row % 256) k) where
@@ -344,18 +282,17 @@ module _ {w : Verdict} {card : Bytes} {to deep i row left k e after : ℕ} (f : 
                   ∙ inner-is ∙ ap (λ (m : ℕ). reads (left - 1) (row_content inner) (i + 6) (between card (i + 6) m)) o;
             }
           where
-            last_rest : e ≡ to → (b : Bool) → b ≡ row_ends after → b ≡ true → reads left (row_content (row_after row)) e (between card e to) ≡ Sound
+            last_rest : e ≡ to → (b : Bool) → b ≡ row_ends after → b ≡ true → reads left (row_content (row_after row)) e (between card e to) ≡ Ok tt
             last_rest o b y v =
                 let q : to - e ≡ 0 = omega arith in
                 ap (λ (m : ℕ). reads left (row_content (row_after row)) e (take m (drop e card))) q
                 ∙ row-end left e (row_after row) (good-after row f.turn.good)
-                ∙ ap (λ (c : Bool). cond c Sound (Refused (ShortRecord e))) (ap row_ends (sym f.then) ∙ sym y ∙ v)
+                ∙ ap (λ (c : Bool). cond c (Ok tt) (Err (ShortRecord e))) (ap row_ends (sym f.then) ∙ sym y ∙ v)
 
         -- any other is entered
-        module _ {v : ℕ} (y : said v ≡ reads (left - 1) (row_content inner) (i + 6) (between card (i + 6) e)) where
-          pub turn-fault : (v ≡ 0 → ⊥) → said v ≡ w
-          turn-fault z =
-              refused f.turn f.more f.whole f.some v (fault_of (v % 8) (v / 8)) (said-fault v z) (inner-is ∙ sym y ∙ said-fault v z)
+        module _ {v : Verdict} (y : v ≡ reads (left - 1) (row_content inner) (i + 6) (between card (i + 6) e)) where
+          pub turn-fault : {a : Refusal} → v ≡ Err a → v ≡ w
+          turn-fault {a} z = refused f.turn f.more f.whole f.some a z (inner-is ∙ sym y ∙ z)
 
-          pub turn-inner : v ≡ 0 → Turn w card to deep e after left
-          turn-inner z = on (inner-is ∙ sym y ∙ said-none v z)
+          pub turn-inner : v ≡ Ok tt → Turn w card to deep e after left
+          turn-inner z = on (inner-is ∙ sym y ∙ z)

@@ -1,9 +1,9 @@
 -- What a walk over sound bytes has in hand at each record, stated once over the place and the kind. Assumes nothing.
+use Rattle.std.specs.Prelude.{Ok}
 use mathlib.Core.Path.{◌≡◌, sym, ◌∙◌}
 use mathlib.Core.Option.{some}
 use Prim.Native.Nat.{ℕ, suc, ◌+◌, ◌<◌}
 use lib.ListN.{length}
-use Rattle.answers.specs.declared.Verdict.TheVariants.{Sound}
 use Rattle.wire.specs.Numbers.{Bytes}
 use Rattle.records.specs.Record.{◌▸◌, length_of, rest_of}
 use Rattle.records.specs.Kinds.{Place, Content}
@@ -16,10 +16,10 @@ use Rattle.reading.proofs.Laws.{reads-record, next_more}
 -- record j of a content, with the record at its place, and what follows it
 pub record Walk (left : ℕ) (c : Content) (j at : ℕ) (s : Bytes) (q : Place) : Type 0 where
   pub first : Held left q at s
-  pub rest-sound : reads left (after c (suc j)) (at + (4 + length_of s)) (rest_of s) ≡ Sound
+  pub rest-sound : reads left (after c (suc j)) (at + (4 + length_of s)) (rest_of s) ≡ Ok tt
   pub is-tree : records_of s ≡ record_of s ▸ records_of (rest_of s)
 
-pub walk : (left : ℕ) (c : Content) (j at : ℕ) (s : Bytes) (q : Place) → reads left (after c j) at s ≡ Sound → 0 < length s → place_in c j ≡ some q
+pub walk : (left : ℕ) (c : Content) (j at : ℕ) (s : Bytes) (q : Place) → reads left (after c j) at s ≡ Ok tt → 0 < length s → place_in c j ≡ some q
     → Walk left c j at s q
 walk left c j at s q h l e =
     let v = and_then-sound (reads_record left q at s) (reads left (after c (suc j)) (at + (4 + length_of s)) (rest_of s))

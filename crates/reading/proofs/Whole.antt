@@ -1,17 +1,17 @@
 -- The whole of a card's or a root's bytes: one record, and nothing after it. One byte behind the record is enough to see. Assumes nothing.
+use Rattle.std.specs.Prelude.{Ok, Err}
 use mathlib.Core.Path.{◌≡◌, refl, ap, ap₂, sym, ◌∙◌}
 use mathlib.Core.List.{[], ◌∷◌}
 use mathlib.Core.Bool.{Bool, true, not, cond}
-use Prim.Native.Nat.{ℕ, zero, suc, ◌+◌, ◌-◌, ◌<◌}
+use Prim.Native.Nat.{min, ℕ, zero, suc, ◌+◌, ◌-◌, ◌<◌}
 use native.Mathlib.Omega.{arith}
 use native.Mathlib.Decide.{dec_lt}
 use lib.ListN.{length, take, drop, length-take, length-drop}
 use lib.Dec.{ltb}
 use borrow.Author.Tests.{lt-ltb}
-use Rattle.answers.specs.declared.Answer.{Answer}
-use Rattle.answers.specs.declared.Answer.TheVariants.{BadRoot, ShortRecord, WrongKind, TooDeep, LeftOver, NoName}
-use Rattle.answers.specs.declared.Verdict.{Verdict}
-use Rattle.answers.specs.declared.Verdict.TheVariants.{Sound, Refused}
+use Rattle.answers.specs.declared.Refusal.{Refusal}
+use Rattle.answers.specs.declared.Refusal.TheVariants.{BadRoot, ShortRecord, WrongKind, TooDeep, LeftOver, NoName}
+use Rattle.answers.specs.Answers.{Verdict}
 use Rattle.wire.specs.Numbers.{Bytes, num, between}
 use Rattle.wire.proofs.Slices.{tail-is}
 use Rattle.wire.proofs.Within.{Within, within_all, within-drop, within-front}
@@ -33,13 +33,13 @@ same-record : (limit at : ℕ) (p : Place) (u s : Bytes) → short u ≡ short s
     → reads_record limit p at u ≡ reads_record limit p at s
 unfolding reads_record
 same-record zero at p u s a b c =
-    ap₂ (λ (x : Bool) (k : ℕ). cond x (Refused (ShortRecord at)) (cond (not (stands p k)) (Refused (WrongKind at)) (Refused (TooDeep at)))) a b
+    ap₂ (λ (x : Bool) (k : ℕ). cond x (Err (ShortRecord at)) (cond (not (stands p k)) (Err (WrongKind at)) (Err (TooDeep at)))) a b
 same-record (suc limit) at p u s a b c =
-    ap (λ (x : Bool). cond x (Refused (ShortRecord at))
-    (cond (not (stands p (kind_of u))) (Refused (WrongKind at))
-    (cond (nameless p (kind_of u) (content_of u)) (Refused (NoName at)) (reads limit (content_at p (kind_of u)) (at + 6) (content_of u))))) a
-    ∙ ap₂ (λ (k : ℕ) (d : Bytes). cond (short s) (Refused (ShortRecord at))
-    (cond (not (stands p k)) (Refused (WrongKind at)) (cond (nameless p k d) (Refused (NoName at)) (reads limit (content_at p k) (at + 6) d)))) b c
+    ap (λ (x : Bool). cond x (Err (ShortRecord at))
+    (cond (not (stands p (kind_of u))) (Err (WrongKind at))
+    (cond (nameless p (kind_of u) (content_of u)) (Err (NoName at)) (reads limit (content_at p (kind_of u)) (at + 6) (content_of u))))) a
+    ∙ ap₂ (λ (k : ℕ) (d : Bytes). cond (short s) (Err (ShortRecord at))
+    (cond (not (stands p k)) (Err (WrongKind at)) (cond (nameless p k d) (Err (NoName at)) (reads limit (content_at p k) (at + 6) d)))) b c
 
 small-short : (s : Bytes) → length_of s < 2 → short s ≡ true
 small-short s h = by-test (ltb (length s) 6) (λ e. rw e) (λ e. rw (e, lt-ltb (length_of s) 2 h))
@@ -50,12 +50,12 @@ module _ (limit : ℕ) (p : Place) (s : Bytes) where
 
   -- bytes that are left over, of whatever begins as s does and has one byte more than its record
   then-left : (u : Bytes) → length_of u ≡ length_of s → 4 + length_of s < length u → reads_record limit p 0 u ≡ reads_record limit p 0 s
-      → reads limit (these (p ∷ [])) 0 u ≡ and_then (reads_record limit p 0 s) (Refused (LeftOver (4 + length_of s)))
+      → reads limit (these (p ∷ [])) 0 u ≡ and_then (reads_record limit p 0 s) (Err (LeftOver (4 + length_of s)))
   then-left u e h r =
       let d : length (rest_of u) ≡ length u - (4 + length_of u) = length-drop (4 + length_of u) u in
       reads-record limit (these (p ∷ [])) 0 u p (these []) refl
       ∙ ap₂ and_then r (reads-left_over limit (these []) (0 + (4 + length_of u)) (rest_of u) (next-left (these []) 0 (rest_of u) refl (omega arith) refl)
-      ∙ ap (λ (n : ℕ). Refused (LeftOver n)) (let o : 0 + (4 + length_of u) ≡ 4 + length_of s = omega arith in o))
+      ∙ ap (λ (n : ℕ). Err (LeftOver n)) (let o : 0 + (4 + length_of u) ≡ 4 + length_of s = omega arith in o))
 
   module _ (m : ℕ) (e : m ≡ 5 + length_of s) (h : m < length s) where
     cut-length : length (between s 0 m) ≡ m
@@ -97,6 +97,15 @@ pub row_cut : (limit p : ℕ) (s : Bytes) (m : ℕ) → 0 < p → p < 32 → m �
     → reads limit (row_content p) 0 (between s 0 m) ≡ reading limit (place_of p) s
 row_cut limit p s m n h e l = rw (content-of-one p n h) (whole-cut limit (place_of p) s m e l)
 
+-- of what follows the one record at most one byte is looked at
+pub read-least : (limit p : ℕ) (s : Bytes) (n m : ℕ) → 0 < p → p < 32 → n ≡ length_of s → m ≡ min (length s) (5 + n)
+    → reads limit (row_content p) 0 (between s 0 m) ≡ reading limit (place_of p) s
+read-least limit p s n m a b l e =
+    elim (dec_lt (5 + n) (length s)) [
+      | yes h ↦ row_cut limit p s m a b (omega (arith, e, l, h)) (omega (arith, e, h))
+      | no h ↦ row-all limit p s m a b (omega (arith, e, h))
+    ]
+
 -- a card's and a root's places
 pub read-card-is : (v : Verdict) (card : Bytes) → v ≡ reading 48 (place_of 7) card → v ≡ reading 48 mod' card
 read-card-is v card e = e ∙ ap (λ (p : Place). reading 48 p card) place-mod
@@ -105,10 +114,10 @@ pub read-root-is : (v : Verdict) (root : Bytes) → v ≡ reading 8 (place_of 4)
 read-root-is v root e = e ∙ ap (λ (p : Place). reading 8 p root) place-path
 
 -- a root that is sound, and one that is not
-pub both-card : (v x : Verdict) (root card : Bytes) → v ≡ reading 8 (place_of 4) root → v ≡ Sound → x ≡ reading 48 (place_of 7) card
+pub both-card : (v x : Verdict) (root card : Bytes) → v ≡ reading 8 (place_of 4) root → v ≡ Ok tt → x ≡ reading 48 (place_of 7) card
     → x ≡ root_then (reading 8 path root) (reading 48 mod' card)
 both-card v x root card r y e = rw (sym (read-root-is v root r) ∙ y) (read-card-is x card e)
 
-pub both-root : (v : Verdict) (a : Answer) (root card : Bytes) → v ≡ reading 8 (place_of 4) root → v ≡ Refused a
-    → Refused BadRoot ≡ root_then (reading 8 path root) (reading 48 mod' card)
+pub both-root : (v : Verdict) (a : Refusal) (root card : Bytes) → v ≡ reading 8 (place_of 4) root → v ≡ Err a
+    → Err BadRoot ≡ root_then (reading 8 path root) (reading 48 mod' card)
 both-root v a root card r y = rw (sym (read-root-is v root r) ∙ y)

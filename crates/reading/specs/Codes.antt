@@ -1,9 +1,8 @@
--- The content of a record, and what is said of it, as numbers. Assumes nothing: these are definitions.
-use Rattle.std.specs.Prelude.{◌≡◌, List, [], ◌∷◌, map, Bool, ◌||◌, cond, ℕ, zero, suc, ◌+◌, ◌-◌, ◌/◌, ◌%◌, ◌^◌, ◌<◌, ◌≤◌, eqb, leb, ltb}
-use Rattle.answers.specs.declared.Answer.{Answer}
-use Rattle.answers.specs.declared.Answer.TheVariants.{ShortRecord, WrongKind, TooDeep, LeftOver, NoName}
-use Rattle.answers.specs.declared.Verdict.{Verdict}
-use Rattle.answers.specs.declared.Verdict.TheVariants.{Sound, Refused}
+-- The content of a record as a number. Assumes nothing: these are definitions.
+use Rattle.std.specs.Prelude.{◌≡◌, List, [], ◌∷◌, map, Bool, ◌||◌, cond, ℕ, zero, suc, ◌+◌, ◌-◌, ◌/◌, ◌%◌, ◌^◌, ◌<◌, ◌≤◌, eqb, leb, ltb, Ok, Err}
+use Rattle.answers.specs.Answers.{Answer}
+use Rattle.answers.specs.declared.Refusal.TheVariants.{ShortRecord, WrongKind, TooDeep, LeftOver, NoName}
+use Rattle.answers.specs.Answers.{Verdict}
 use Rattle.wire.specs.Numbers.{num}
 use Rattle.records.specs.Kinds.{Place, row_of, Content, these, any}
 use Rattle.rows.specs.Codes.{place_of, code_of}
@@ -45,10 +44,3 @@ AllValid (suc n) row = Valid (row % 256) × AllValid n (row / 256)
 pub data Good (row : ℕ) : Type 0 where
   again : many ≤ row → 0 < row % 256 → row % 256 < 32 → Good row
   fields : row < many → AllValid 8 row → Good row
-
--- a verdict as one number: 0 is sound, and a refusal its place eight times and its number, less 8 where that is 11
-unfoldable pub fault_of : (n at : ℕ) → Answer
-fault_of n at = cond (ltb n 4) (NoName at) (cond (eqb n 4) (ShortRecord at) (cond (eqb n 5) (WrongKind at) (cond (eqb n 6) (TooDeep at) (LeftOver at))))
-
-unfoldable pub said : ℕ → Verdict
-said v = cond (eqb v 0) Sound (Refused (fault_of (v % 8) (v / 8)))

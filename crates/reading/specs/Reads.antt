@@ -1,9 +1,8 @@
 -- Reading as the code goes about it: by the depth that is left, and record by record. Assumes nothing: these are definitions.
-use Rattle.std.specs.Prelude.{List, [], ◌∷◌, not, cond, ℕ, zero, suc, ◌+◌, length, drop}
+use Rattle.std.specs.Prelude.{List, [], ◌∷◌, not, cond, ℕ, zero, suc, ◌+◌, length, drop, Ok, Err}
 use Rattle.std.proofs.Math.Option.{Option, none, some}
-use Rattle.answers.specs.declared.Answer.TheVariants.{BadRoot, ShortRecord, WrongKind, TooDeep, NoName}
-use Rattle.answers.specs.declared.Verdict.{Verdict}
-use Rattle.answers.specs.declared.Verdict.TheVariants.{Sound, Refused}
+use Rattle.answers.specs.declared.Refusal.TheVariants.{BadRoot, ShortRecord, WrongKind, TooDeep, NoName}
+use Rattle.answers.specs.Answers.{Verdict}
 use Rattle.wire.specs.Numbers.{Bytes}
 use Rattle.records.specs.Record.{kind_of, content_of}
 use Rattle.records.specs.Kinds.{Place, stands, Content, bytes, these, any, at_most_one, content_at}
@@ -16,12 +15,12 @@ reads left c at s = read left (suc (length s)) c 1 at s
 -- one record at a place, with its content
 unfoldable pub reads_record : (left : ℕ) → Place → (at : ℕ) → Bytes → Verdict
 reads_record zero p at s =
-    cond (short s) (Refused (ShortRecord at))
-    (cond (not (stands p (kind_of s))) (Refused (WrongKind at)) (Refused (TooDeep at)))
+    cond (short s) (Err (ShortRecord at))
+    (cond (not (stands p (kind_of s))) (Err (WrongKind at)) (Err (TooDeep at)))
 reads_record (suc left) p at s =
-    cond (short s) (Refused (ShortRecord at))
-    (cond (not (stands p (kind_of s))) (Refused (WrongKind at))
-    (cond (nameless p (kind_of s) (content_of s)) (Refused (NoName at)) (reads left (content_at p (kind_of s)) (at + 6) (content_of s))))
+    cond (short s) (Err (ShortRecord at))
+    (cond (not (stands p (kind_of s))) (Err (WrongKind at))
+    (cond (nameless p (kind_of s) (content_of s)) (Err (NoName at)) (reads left (content_at p (kind_of s)) (at + 6) (content_of s))))
 
 -- what a content asks after j records
 abbrev pub after : Content → ℕ → Content
@@ -45,5 +44,5 @@ place_in (at_most_one p) (suc j) = none
 
 -- a root's verdict, and then what is said of the card: 3 where the root is none
 abbrev pub root_then : Verdict → Verdict → Verdict
-root_then Sound v = v
-root_then (Refused a) v = Refused BadRoot
+root_then (Ok _) v = v
+root_then (Err a) v = Err BadRoot

@@ -7,9 +7,9 @@ ghost use Rattle.records.specs.Kinds.{mod', path};
 ghost use Rattle.records.specs.Reading.{reading};
 ghost use Rattle.rows.specs.Codes.{place_of, table};
 ghost use Rattle.reading.specs.Reads.{reads, root_then};
-ghost use Rattle.reading.specs.Codes.{row_content, row_after, row_ends, row_in, Good, said};
+ghost use Rattle.reading.specs.Codes.{row_content, row_after, row_ends, row_in, Good};
 
-use answers::{Answer, Verdict};
+use answers::{Refusal, Verdict};
 
 // What a record holds is a row: a byte for the place of each field, the first the lowest; or this and the number of a place, for any number
 // of records there. Here and below, t is the table of rows.
@@ -49,9 +49,8 @@ fn may_end(row: u64) -> bool
     row % 256 == 0
 }
 
-// The bytes of the card from one place to another, as the content of a row whose records may go this deep. The answer is one number: 0, or the
-// place of a fault eight times and its number, 3 for 11. A record that ends its parent is read on with, not entered. What may_stand found out of the
-// place is used right behind it, so that it is branched on once; depth is tested in either branch.
+// The bytes of the card from one place to another, as the content of a row whose records may go this deep. A record that ends its parent is read on with,
+// not entered. What may_stand found out of the place is used right behind it, so that it is branched on once; depth is tested in either branch.
 fn read_content(
     card: &[u8],
     from: usize,
@@ -59,34 +58,35 @@ fn read_content(
     first: u64,
     deep: usize,
     t: &[u64; 135],
-) -> usize
+) -> Verdict
     requires { (Good first) × (from ≤ to) × (to ≤ length card.now) × (to < 2 ^ 60) × (t.now ≡ table) }
-    ensures { said result ≡ reads deep (row_content first) from (between card.now from to) }
+    ensures { result ≡ reads deep (row_content first) from (between card.now from to) }
 {
     let mut i = from;
     let mut row = first;
     let mut left = deep;
+    // A while: a record is as long as it says, and the last of its parent is gone on with in the same loop.
     while i < to {
         let p = (row % 256) as usize;
         if p == 0 {
-            return 8 * i + 7;
+            return Err(Refusal::LeftOver(i));
         }
         let s = &card[i..to];
         if reader::is_short(s) {
-            return 8 * i + 4;
+            return Err(Refusal::ShortRecord(i));
         }
         let k = reader::record_kind(s);
         if !rows::may_stand(p, k) {
-            return 8 * i + 5;
+            return Err(Refusal::WrongKind(i));
         }
         let e = i + 4 + reader::record_length(s);
         let after = row_after(row);
         if p < 4 {
             if left == 0 {
-                return 8 * i + 6;
+                return Err(Refusal::TooDeep(i));
             }
             if rows::is_nameless(p, k, &card[i + 6..e]) {
-                return 8 * i + 3;
+                return Err(Refusal::NoName(i));
             }
             i = e;
             row = after;
@@ -94,11 +94,11 @@ fn read_content(
         }
         let inner = row_in(p, k, t);
         if left == 0 {
-            return 8 * i + 6;
+            return Err(Refusal::TooDeep(i));
         }
         if e == i + 6 {
             if !may_end(rows::row_at(t, k)) {
-                return 8 * e + 4;
+                return Err(Refusal::ShortRecord(e));
             }
             i = e;
             row = after;
@@ -112,41 +112,14 @@ fn read_content(
                 continue;
             }
         }
-        let v = read_content(card, i + 6, e, inner, left - 1, t);
-        if v != 0 {
-            return v;
-        }
+        read_content(card, i + 6, e, inner, left - 1, t)?;
         i = e;
         row = after;
     }
     if may_end(row) {
-        return 0;
+        return Ok(());
     }
-    8 * i + 4
-}
-
-// What such a number says.
-fn verdict(v: usize) -> Verdict
-    ensures { result ≡ said v }
-{
-    if v == 0 {
-        return Verdict::Sound;
-    }
-    let at = v / 8;
-    let n = v % 8;
-    if n < 4 {
-        return Verdict::Refused(Answer::NoName(at));
-    }
-    if n == 4 {
-        return Verdict::Refused(Answer::ShortRecord(at));
-    }
-    if n == 5 {
-        return Verdict::Refused(Answer::WrongKind(at));
-    }
-    if n == 6 {
-        return Verdict::Refused(Answer::TooDeep(at));
-    }
-    Verdict::Refused(Answer::LeftOver(at))
+    Err(Refusal::ShortRecord(i))
 }
 
 // Exactly one record at place p, at most limit deep. Of what follows it one byte is looked at.
@@ -155,11 +128,7 @@ fn read_one(s: &[u8], p: u64, limit: usize, t: &[u64; 135]) -> Verdict
     ensures { result ≡ reading limit (place_of p) s.now }
 {
     let e = 5 + reader::record_length(s);
-    let mut to = s.len();
-    if e < to {
-        to = e;
-    }
-    verdict(read_content(s, 0, to, p, limit, t))
+    read_content(s, 0, s.len().min(e), p, limit, t)
 }
 
 // A card: one Mod or ExternMod, at most 48 deep.
@@ -185,7 +154,7 @@ pub fn read_both(root: &[u8], card: &[u8]) -> Verdict
     let t = rows::table();
     let v = read_one(root, 4, 8, &t);
     match v {
-        Verdict::Sound => read_one(card, 7, 48, &t),
-        Verdict::Refused(_) => Verdict::Refused(Answer::BadRoot),
+        Ok(()) => read_one(card, 7, 48, &t),
+        Err(_) => Err(Refusal::BadRoot),
     }
 }

@@ -1,11 +1,11 @@
 -- Worked records, by computation: one card's bytes, its faults in the papers' order, how many fields each kind has, and where a name is due. Assumes nothing.
+use Rattle.std.specs.Prelude.{Ok, Err}
 use mathlib.Core.Path.{◌≡◌, refl}
 use mathlib.Core.Bool.{Bool, true, false, cond}
 use mathlib.Core.List.{List, [], ◌∷◌, ◌++◌, map}
 use Prim.Native.Nat.{ℕ, zero, suc}
 use lib.ListN.{length, replicate}
-use Rattle.answers.specs.declared.Answer.TheVariants.{ShortRecord, WrongKind, TooDeep, LeftOver, NoName}
-use Rattle.answers.specs.declared.Verdict.TheVariants.{Sound, Refused}
+use Rattle.answers.specs.declared.Refusal.TheVariants.{ShortRecord, WrongKind, TooDeep, LeftOver, NoName}
 use Rattle.wire.specs.Numbers.{Bytes, le, num}
 use Rattle.records.specs.Record.{Record, Records, leaf, node, nil, ◌▸◌, encode, parse, nth, tree}
 use Rattle.records.specs.Kinds.{Place, kinds, name, seq, option, mod', path, Row, rows, row_of, content_at}
@@ -59,7 +59,7 @@ worked result =
 -- the result: none, a synonym, a record of another kind, two records; and in a synonym, one type too many
 pub result-read : map (λ result. reading 48 mod' (encode (worked result)))
     (nil ∷ (node 0x37 (T ▸ T ▸ nil) ▸ nil) ∷ (Text ▸ nil) ∷ (T ▸ T ▸ nil) ∷ (node 0x37 (T ▸ T ▸ T ▸ nil) ▸ nil) ∷ [])
-    ≡ Sound ∷ Sound ∷ Refused (WrongKind 170) ∷ Refused (LeftOver 183) ∷ Refused (LeftOver 202) ∷ []
+    ≡ Ok tt ∷ (Ok tt) ∷ Err (WrongKind 170) ∷ Err (LeftOver 183) ∷ Err (LeftOver 202) ∷ []
 unfolding le num encode row_of content_at read reading
 result-read = refl
 
@@ -71,7 +71,7 @@ pub short-read : map (reading 48 mod') (
     ∷ (8 ∷ 0 ∷ 0 ∷ 0 ∷ 0x61 ∷ 0 ∷ 3 ∷ 0 ∷ 0 ∷ 0 ∷ 1 ∷ 0 ∷ [])
     ∷ (2 ∷ 0 ∷ 0 ∷ 0 ∷ 0x60 ∷ 0 ∷ [])
     ∷ [])
-    ≡ map (λ at. Refused (ShortRecord at)) (0 ∷ 0 ∷ 0 ∷ 6 ∷ 6 ∷ [])
+    ≡ map (λ at. Err (ShortRecord at)) (0 ∷ 0 ∷ 0 ∷ 6 ∷ 6 ∷ [])
 unfolding le num encode row_of content_at read reading
 short-read = refl
 
@@ -79,13 +79,13 @@ short-read = refl
 pub in_order :
     reading 0 mod' [] ∷ reading 0 mod' (1 ∷ 0 ∷ 0 ∷ 0 ∷ 1 ∷ 0 ∷ []) ∷ reading 0 mod' (encode Text)
     ∷ reading 0 mod' extern ∷ reading 1 mod' extern ∷ reading 2 mod' extern ∷ []
-    ≡ Refused (ShortRecord 0) ∷ Refused (ShortRecord 0) ∷ Refused (WrongKind 0) ∷ Refused (TooDeep 0) ∷ Refused (TooDeep 6) ∷ Sound ∷ []
+    ≡ Err (ShortRecord 0) ∷ Err (ShortRecord 0) ∷ Err (WrongKind 0) ∷ Err (TooDeep 0) ∷ Err (TooDeep 6) ∷ (Ok tt) ∷ []
 unfolding le num encode row_of content_at read reading
 in_order = refl
 
 -- the children before 7, and 7 after the card's record (01, P15)
 pub left-over : map (reading 48 mod') (encode (node 0x61 (Kept ▸ Text ▸ nil)) ∷ encode (node 0x61 (Text ▸ Text ▸ nil)) ∷ (extern ++ (0 ∷ [])) ∷ [])
-    ≡ Refused (WrongKind 6) ∷ Refused (LeftOver 12) ∷ Refused (LeftOver 13) ∷ []
+    ≡ Err (WrongKind 6) ∷ Err (LeftOver 12) ∷ Err (LeftOver 13) ∷ []
 unfolding le num encode row_of content_at read reading
 left-over = refl
 
@@ -101,7 +101,7 @@ called b = leaf 0x01 b
 
 -- the names "", "!", "!!", "a" and "a!"
 pub name-read : map (λ b. reading 48 mod' (encode (uses (Crate ▸ called b ▸ nil)))) ([] ∷ (33 ∷ []) ∷ (33 ∷ 33 ∷ []) ∷ (97 ∷ []) ∷ (97 ∷ 33 ∷ []) ∷ [])
-    ≡ Refused (NoName 60) ∷ Refused (NoName 60) ∷ Sound ∷ Sound ∷ Sound ∷ []
+    ≡ Err (NoName 60) ∷ Err (NoName 60) ∷ (Ok tt) ∷ (Ok tt) ∷ (Ok tt) ∷ []
 unfolding le num encode row_of content_at read reading
 name-read = refl
 
@@ -110,13 +110,13 @@ pub no-name-first :
     reading 48 mod' (encode (uses (Crate ▸ Text ▸ Text ▸ nil))) ∷ reading 48 mod' (encode (uses (Crate ▸ called (97 ∷ []) ▸ Text ▸ nil)))
     ∷ reading 48 mod' (encode (uses (Crate ▸ Kept ▸ nil))) ∷ reading 48 mod' (encode (uses (node 0x13 (Crate ▸ Text ▸ nil) ▸ Text ▸ nil)))
     ∷ reading 8 path (encode (node 0x13 (Crate ▸ Text ▸ nil))) ∷ []
-    ≡ Refused (NoName 60) ∷ Refused (LeftOver 67) ∷ Refused (WrongKind 60) ∷ Refused (NoName 66) ∷ Refused (NoName 12) ∷ []
+    ≡ Err (NoName 60) ∷ Err (LeftOver 67) ∷ Err (WrongKind 60) ∷ Err (NoName 66) ∷ Err (NoName 12) ∷ []
 unfolding le num encode row_of content_at read reading
 no-name-first = refl
 
 -- after 4, 5 and 6 of the Text itself
 pub no-name-last : reading 1 name [] ∷ reading 1 name (encode Kept) ∷ reading 0 name (encode Text) ∷ reading 1 name (encode Text) ∷ []
-    ≡ Refused (ShortRecord 0) ∷ Refused (WrongKind 0) ∷ Refused (TooDeep 0) ∷ Refused (NoName 0) ∷ []
+    ≡ Err (ShortRecord 0) ∷ Err (WrongKind 0) ∷ Err (TooDeep 0) ∷ Err (NoName 0) ∷ []
 unfolding le num encode row_of content_at read reading
 no-name-last = refl
 
@@ -155,6 +155,6 @@ named-are = refl
 
 -- the base's faults before the name's
 pub base-first : reading 48 mod' (encode (uses (Kept ▸ Text ▸ nil))) ∷ reading 48 mod' (encode (uses (node 0x11 (Text ▸ nil) ▸ Text ▸ nil))) ∷ []
-    ≡ Refused (WrongKind 54) ∷ Refused (LeftOver 60) ∷ []
+    ≡ Err (WrongKind 54) ∷ Err (LeftOver 60) ∷ []
 unfolding le num encode row_of content_at read reading
 base-first = refl

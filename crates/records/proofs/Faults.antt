@@ -1,4 +1,5 @@
 -- Reading refuses by 4 to 7 and 11 alone, at a place within the bytes. Assumes nothing.
+use Rattle.std.specs.Prelude.{Ok, Err}
 use mathlib.Core.Path.{◌≡◌, refl}
 use mathlib.Core.Bool.{Bool, true, false, not, cond}
 use mathlib.Core.List.{[], ◌∷◌}
@@ -7,11 +8,10 @@ use native.Mathlib.Omega.{arith}
 use lib.ListN.{length}
 use lib.Dec.{ltb}
 use Rattle.answers.specs.Answers.{value}
-use Rattle.answers.specs.declared.Answer.{Answer}
-use Rattle.answers.specs.declared.Answer.TheVariants.{Shortened, ShortWork, LongCard, BadRoot, ShortRecord, WrongKind}
-use Rattle.answers.specs.declared.Answer.TheVariants.{TooDeep, LeftOver, FullTable, NoSpace, ShortList, NoName}
-use Rattle.answers.specs.declared.Verdict.{Verdict}
-use Rattle.answers.specs.declared.Verdict.TheVariants.{Sound, Refused}
+use Rattle.answers.specs.declared.Refusal.{Refusal}
+use Rattle.answers.specs.declared.Refusal.TheVariants.{ShortWork, LongCard, BadRoot, ShortRecord, WrongKind}
+use Rattle.answers.specs.declared.Refusal.TheVariants.{TooDeep, LeftOver, FullTable, NoSpace, ShortList, NoName}
+use Rattle.answers.specs.Answers.{Verdict}
 use Rattle.wire.specs.Numbers.{Bytes}
 use Rattle.records.specs.Record.{length_of, kind_of, content_of, rest_of}
 use Rattle.records.specs.Kinds.{Place, stands, Content, these, content_at}
@@ -19,8 +19,7 @@ use Rattle.records.specs.Reading.{Next, done, left_over, record-at, next, short,
 use Rattle.records.proofs.Tree.{rest-length, content-length}
 
 -- sound, or one of 4 to 7 and 11
-abbrev pub fault : Answer → Bool
-fault (Shortened n) = false
+abbrev pub fault : Refusal → Bool
 fault ShortWork = false
 fault LongCard = false
 fault BadRoot = false
@@ -34,19 +33,19 @@ fault ShortList = false
 fault (NoName n) = true
 
 abbrev pub fair : Verdict → Bool
-fair Sound = true
-fair (Refused a) = fault a
+fair (Ok _) = true
+fair (Err a) = fault a
 
 -- sound, or refused by one of 4 to 7 and 11 at a place that is not past m
 unfoldable pub Within : ℕ → Verdict → Type 0
-Within m Sound = Unit {0}
-Within m (Refused a) = (fault a ≡ true) × (value a ≤ m)
+Within m (Ok _) = Unit {0}
+Within m (Err a) = (fault a ≡ true) × (value (Err a) ≤ m)
 
 module _ (m : ℕ) where
   both-within : (v w : Verdict) → Within m v → Within m w → Within m (and_then v w)
   unfolding Within
-  both-within Sound w p q = q
-  both-within (Refused a) w p q = p
+  both-within (Ok _) w p q = q
+  both-within (Err a) w p q = p
 
   picked-within : (t : Bool) (v w : Verdict) → Within m v → (t ≡ false → Within m w) → Within m (cond t v w)
   picked-within true v w p q = p
@@ -67,10 +66,10 @@ module _ (m : ℕ) where
 
 within_more : (m n : ℕ) (v : Verdict) → m ≤ n → Within m v → Within n v
 unfolding Within
-within_more m n Sound h w = tt
-within_more m n (Refused a) h w = (w.0, (let i = w.1 in omega arith))
+within_more m n (Ok _) h w = tt
+within_more m n (Err a) h w = (w.0, (let i = w.1 in omega arith))
 
-sound-within : (m : ℕ) → Within m Sound
+sound-within : (m : ℕ) → Within m (Ok tt)
 unfolding Within
 sound-within m = tt
 
@@ -95,8 +94,8 @@ reading-within limit p s = within_more (0 + length s) (length s) _ (omega arith)
 
 fair-of : (m : ℕ) (v : Verdict) → Within m v → fair v ≡ true
 unfolding Within
-fair-of m Sound w = refl
-fair-of m (Refused a) w = w.0
+fair-of m (Ok _) w = refl
+fair-of m (Err a) w = w.0
 
 pub reading-fair : (limit : ℕ) (p : Place) (s : Bytes) → fair (reading limit p s) ≡ true
 reading-fair limit p s = fair-of (length s) (reading limit p s) (reading-within limit p s)

@@ -1,11 +1,11 @@
 -- A tree that fits a place reads sound there. Assumes nothing.
+use Rattle.std.specs.Prelude.{Ok}
 use mathlib.Core.Path.{◌≡◌, refl, sym, ap, ◌∙◌, subst}
 use mathlib.Core.List.{[], ◌∷◌, ◌++◌, append-nil}
 use mathlib.Core.Bool.{true, false}
 use Prim.Native.Nat.{ℕ, zero, suc, ◌+◌, ◌^◌, ◌<◌, ◌≤◌}
 use native.Mathlib.Omega.{arith}
 use lib.ListN.{length, length-append}
-use Rattle.answers.specs.declared.Verdict.TheVariants.{Sound}
 use Rattle.wire.specs.Numbers.{Bytes}
 use Rattle.records.specs.Record.{Record, Records, leaf, node, nil, ◌▸◌, record_bytes, encode, encode_all, length_of, tree, deep, deep_all}
 use Rattle.records.specs.Kinds.{Place, stands, Content, bytes, these, any, at_most_one, content_at}
@@ -48,7 +48,7 @@ fits_next (at_most_one p) (b ∷ s) r d l f = record { place = p; more = these [
 -- a record's bytes whose content reads sound and which what reads sound follows
 pub front-sound : (limit n depth at k : ℕ) (content rest : Bytes) (p : Place) (more : Content) → k < 65536 → 2 + length content < 2 ^ 32
     → stands p k ≡ true → depth ≤ limit → nameless p k content ≡ false
-    → ((at : ℕ) → read limit n (content_at p k) (depth + 1) at content ≡ Sound) → ((at : ℕ) → read limit n more depth at rest ≡ Sound)
+    → ((at : ℕ) → read limit n (content_at p k) (depth + 1) at content ≡ Ok tt) → ((at : ℕ) → read limit n more depth at rest ≡ Ok tt)
     → Next-sound limit n depth at (record_bytes k content ++ rest) p more
 front-sound limit n depth at k content rest p more small bounded st sh nm inner after = record {
   long = front-short k content rest small bounded;
@@ -60,7 +60,7 @@ front-sound limit n depth at k content rest p more small bounded st sh nm inner 
 }
 
 -- a reading with nothing to spare
-pub read-zero : (limit : ℕ) (c : Content) (depth at : ℕ) (s : Bytes) → read limit zero c depth at s ≡ Sound
+pub read-zero : (limit : ℕ) (c : Content) (depth at : ℕ) (s : Bytes) → read limit zero c depth at s ≡ Ok tt
 unfolding read
 read-zero limit c depth at s = refl
 
@@ -69,7 +69,7 @@ some_bytes k content rest = let a = length-append (record_bytes k content) rest 
 
 -- records that fit a content, are canonical and at most limit deep read sound
 pub fits_read : (limit n : ℕ) (c : Content) (depth at : ℕ) (d : Records) → FitsAll d c → CanonicalAll d → depth + deep_all d ≤ limit + 1
-    → read limit n c depth at (encode_all d) ≡ Sound
+    → read limit n c depth at (encode_all d) ≡ Ok tt
 unfolding encode Stands Canonical deep
 fits_read limit zero c depth at d f g h = read-zero limit c depth at (encode_all d)
 fits_read limit (suc n) c depth at nil f g h = read_done limit (suc n) c depth at [] (fits-done c f)
@@ -90,15 +90,15 @@ fits_read limit (suc n) c depth at (node k e ▸ d) f g h =
     (λ at. fits_read limit n x.more depth at d x.others g.1 (omega arith)))
 
 -- a record that fits a place, is canonical and at most limit deep reads sound there
-pub fits-sound : (limit : ℕ) (p : Place) (r : Record) → Fits r p → Canonical r → deep r ≤ limit → reading limit p (encode r) ≡ Sound
+pub fits-sound : (limit : ℕ) (p : Place) (r : Record) → Fits r p → Canonical r → deep r ≤ limit → reading limit p (encode r) ≡ Ok tt
 unfolding reading encode StandsAll Canonical deep
 fits-sound limit p r f g h =
-    subst (λ (s : Bytes). read limit (suc (length (encode r))) (these (p ∷ [])) 1 0 s ≡ Sound) (append-nil (encode r))
+    subst (λ (s : Bytes). read limit (suc (length (encode r))) (these (p ∷ [])) 1 0 s ≡ Ok tt) (append-nil (encode r))
     (fits_read limit (suc (length (encode r))) (these (p ∷ [])) 1 0 (r ▸ nil) (f, tt) (g, tt) (omega arith))
 
 -- bytes that are those of such a record read sound
-pub reads-sound : (limit : ℕ) (p : Place) (s : Bytes) (r : Record) → ReadsAs limit p s r → reading limit p s ≡ Sound
-reads-sound limit p s r x = subst (λ (t : Bytes). reading limit p t ≡ Sound) x.encoded (fits-sound limit p r x.fits x.canonical x.shallow)
+pub reads-sound : (limit : ℕ) (p : Place) (s : Bytes) (r : Record) → ReadsAs limit p s r → reading limit p s ≡ Ok tt
+reads-sound limit p s r x = subst (λ (t : Bytes). reading limit p t ≡ Ok tt) x.encoded (fits-sound limit p r x.fits x.canonical x.shallow)
 
 -- and that record is their tree
 pub reads-tree : (limit : ℕ) (p : Place) (s : Bytes) (r : Record) → ReadsAs limit p s r → tree s ≡ r

@@ -1,13 +1,13 @@
 -- How many records a reading may take does not matter, once it is more than there are bytes. Assumes nothing.
+use Rattle.std.specs.Prelude.{Err}
 use mathlib.Core.Path.{◌≡◌, refl, ap₂}
 use mathlib.Core.Bool.{Bool, true, false, not, cond}
 use Prim.Native.Nat.{ℕ, zero, suc, ◌+◌, ◌<◌}
 use native.Mathlib.Omega.{arith}
 use lib.ListN.{length}
 use lib.Dec.{ltb}
-use Rattle.answers.specs.declared.Answer.TheVariants.{ShortRecord, WrongKind, TooDeep, NoName}
-use Rattle.answers.specs.declared.Verdict.{Verdict}
-use Rattle.answers.specs.declared.Verdict.TheVariants.{Refused}
+use Rattle.answers.specs.declared.Refusal.TheVariants.{ShortRecord, WrongKind, TooDeep, NoName}
+use Rattle.answers.specs.Answers.{Verdict}
 use Rattle.wire.specs.Numbers.{Bytes}
 use Rattle.records.specs.Record.{length_of, kind_of, content_of, rest_of}
 use Rattle.records.specs.Kinds.{stands, Content, content_at}
@@ -24,13 +24,13 @@ step_same (record-at p more) limit depth at s content content' rest rest' f g = 
   where
     further : Verdict → Verdict
     further v =
-        cond (not (stands p (kind_of s))) (Refused (WrongKind at))
-        (cond (ltb limit depth) (Refused (TooDeep at))
-        (cond (nameless p (kind_of s) (content_of s)) (Refused (NoName at)) v))
+        cond (not (stands p (kind_of s))) (Err (WrongKind at))
+        (cond (ltb limit depth) (Err (TooDeep at))
+        (cond (nameless p (kind_of s) (content_of s)) (Err (NoName at)) v))
 
     go : (b : Bool) → (b ≡ false → (c : Content) → content c ≡ content' c) → (b ≡ false → (c : Content) → rest c ≡ rest' c)
-        → cond b (Refused (ShortRecord at)) (further (and_then (content (content_at p (kind_of s))) (rest more)))
-        ≡ cond b (Refused (ShortRecord at)) (further (and_then (content' (content_at p (kind_of s))) (rest' more)))
+        → cond b (Err (ShortRecord at)) (further (and_then (content (content_at p (kind_of s))) (rest more)))
+        ≡ cond b (Err (ShortRecord at)) (further (and_then (content' (content_at p (kind_of s))) (rest' more)))
     go true f g = refl
     go false f g = ap₂ (λ (v w : Verdict). further (and_then v w)) (f refl (content_at p (kind_of s))) (g refl more)
 

@@ -1,11 +1,11 @@
 -- A tree that fits a place has no nameless path. Assumes nothing.
+use Rattle.std.specs.Prelude.{Ok}
 use mathlib.Core.Path.{◌≡◌, refl, subst}
 use mathlib.Core.List.{[], ◌∷◌}
 use mathlib.Core.Bool.{Bool, true, false, not, ◌&&◌, and-eq-true_iff}
 use Prim.Native.Nat.{ℕ}
 use lib.Dec.{eqb, lit≤}
 use borrow.Author.Tests.{eqb-true}
-use Rattle.answers.specs.declared.Verdict.TheVariants.{Sound}
 use Rattle.wire.specs.Numbers.{Bytes, AreBytes}
 use Rattle.records.specs.Record.{Record, Records, leaf, node, nil, ◌▸◌, text, nth, tree}
 use Rattle.records.specs.Kinds.{Place, name, stands, path, Content, bytes, these, any, at_most_one, row_of, content_at}
@@ -52,5 +52,5 @@ mutual
   fits-named-all (r ▸ c) (at_most_one p) f = (and-eq-true_iff _ _).1 (fits-named r p f.0, fits-named-all c (these []) f.1)
 
 -- what reads sound has no nameless path
-pub reading-named : (limit : ℕ) (p : Place) (s : Bytes) → AreBytes s → reading limit p s ≡ Sound → named (tree s) ≡ true
+pub reading-named : (limit : ℕ) (p : Place) (s : Bytes) → AreBytes s → reading limit p s ≡ Ok tt → named (tree s) ≡ true
 reading-named limit p s h e = fits-named (tree s) p (sound-reads limit p s h e).fits

@@ -1,11 +1,11 @@
 -- The tree of what reads sound. Assumes nothing.
+use Rattle.std.specs.Prelude.{Ok}
 use mathlib.Core.Path.{◌≡◌, refl, sym, ap, ◌∙◌}
 use mathlib.Core.List.{[], ◌∷◌, ◌++◌, append-nil}
 use mathlib.Core.Bool.{Bool, true, false, cond}
 use Prim.Native.Nat.{ℕ, zero, suc, ◌+◌, ◌^◌, ◌<◌, ◌≤◌}
 use native.Mathlib.Omega.{arith}
 use lib.ListN.{length}
-use Rattle.answers.specs.declared.Verdict.TheVariants.{Sound}
 use Rattle.wire.specs.Numbers.{Bytes, AreBytes}
 use Rattle.records.specs.Record.{Record, Records, leaf, node, nil, ◌▸◌, is_leaf, encode, encode_all, length_of, kind_of, content_of}
 use Rattle.records.specs.Record.{rest_of, parse, nth, tree, deep, deep_all}
@@ -101,7 +101,7 @@ are-none limit depth c s r d e = record { encoded = sym (next-done c s r e); fit
 -- what is to be shown of a reading with n to spare
 abbrev Law : (limit n : ℕ) → Type 0
 Law limit n = (m : ℕ) (c : Content) (depth at : ℕ) (s : Bytes) → AreBytes s → length s < n → length s ≤ m → of_bytes c ≡ false → depth ≤ limit + 1
-    → read limit n c depth at s ≡ Sound → Are limit depth c s (parse m s)
+    → read limit n c depth at s ≡ Ok tt → Are limit depth c s (parse m s)
 
 read-record : (limit n : ℕ) → Law limit n → (m : ℕ) (c : Content) (depth at : ℕ) (s : Bytes) (p : Place) (more : Content) → AreBytes s
     → length s < suc n → length s ≤ m
@@ -118,7 +118,7 @@ read-record limit n law (suc m) c depth at s p more h l k q e =
 
 read_next : (limit n : ℕ) → Law limit n → (m : ℕ) (c : Content) (depth at : ℕ) (s : Bytes) → AreBytes s → length s < suc n → length s ≤ m
     → of_bytes c ≡ false → depth ≤ limit + 1
-    → (x : Next) → next c s ≡ x → read limit (suc n) c depth at s ≡ Sound → Are limit depth c s (parse m s)
+    → (x : Next) → next c s ≡ x → read limit (suc n) c depth at s ≡ Ok tt → Are limit depth c s (parse m s)
 read_next limit n law m c depth at s h l k r d done q e = rw (ap (parse m) (next-done c s r q) ∙ parse-nil m) (are-none limit depth c s r d q)
 read_next limit n law m c depth at s h l k r d left_over q e = absurd (read-left_over limit n c depth at s q e)
 read_next limit n law m c depth at s h l k r d (record-at p more) q e =
@@ -126,7 +126,7 @@ read_next limit n law m c depth at s h l k r d (record-at p more) q e =
 
 -- what reads sound is the bytes of the records that parse finds in it, and they fit, are canonical and at most limit deep
 pub read-are : (limit n m : ℕ) (c : Content) (depth at : ℕ) (s : Bytes) → AreBytes s → length s < n → length s ≤ m → of_bytes c ≡ false → depth ≤ limit + 1
-    → read limit n c depth at s ≡ Sound → Are limit depth c s (parse m s)
+    → read limit n c depth at s ≡ Ok tt → Are limit depth c s (parse m s)
 read-are limit zero m c depth at s h l k r d e = absurd (omega arith)
 read-are limit (suc n) m c depth at s h l k r d e = read_next limit n (read-are limit n) m c depth at s h l k r d (next c s) refl e
 
@@ -150,7 +150,7 @@ are-one limit p s (r ▸ nil) a =
 are-one limit p s (r ▸ (q ▸ d)) a = absurd a.fits.1
 
 -- bytes that read sound at a place are those of their tree
-pub sound-reads : (limit : ℕ) (p : Place) (s : Bytes) → AreBytes s → reading limit p s ≡ Sound → ReadsAs limit p s (tree s)
+pub sound-reads : (limit : ℕ) (p : Place) (s : Bytes) → AreBytes s → reading limit p s ≡ Ok tt → ReadsAs limit p s (tree s)
 unfolding reading tree
 sound-reads limit p s h e =
     are-one limit p s (parse (length s) s)

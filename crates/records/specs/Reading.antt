@@ -1,8 +1,7 @@
 -- 01, "The console's answers", 4 to 7, and 02, request 4, 11: reading, with the first fault in their order. Assumes nothing: these are definitions.
-use Rattle.std.specs.Prelude.{[], ◌∷◌, Bool, true, false, not, ◌&&◌, ◌||◌, cond, ℕ, zero, suc, ◌+◌, length, eqb, ltb}
-use Rattle.answers.specs.declared.Answer.TheVariants.{ShortRecord, WrongKind, TooDeep, LeftOver, NoName}
-use Rattle.answers.specs.declared.Verdict.{Verdict}
-use Rattle.answers.specs.declared.Verdict.TheVariants.{Sound, Refused}
+use Rattle.std.specs.Prelude.{[], ◌∷◌, Bool, true, false, not, ◌&&◌, ◌||◌, cond, ℕ, zero, suc, ◌+◌, length, eqb, ltb, Ok, Err}
+use Rattle.answers.specs.declared.Refusal.TheVariants.{ShortRecord, WrongKind, TooDeep, LeftOver, NoName}
+use Rattle.answers.specs.Answers.{Verdict}
 use Rattle.wire.specs.Numbers.{Bytes}
 use Rattle.records.specs.Record.{length_of, kind_of, content_of, rest_of}
 use Rattle.records.specs.Kinds.{Place, kinds, name, seq, option, stands, Content, bytes, these, any, at_most_one, content_at}
@@ -39,24 +38,24 @@ nameless (seq p) k content = false
 nameless (option p) k content = false
 
 abbrev pub and_then : Verdict → Verdict → Verdict
-and_then Sound v = v
-and_then (Refused a) v = Refused a
+and_then (Ok _) v = v
+and_then (Err a) v = Err a
 
 -- the record at the front of s: 4, 5, 6 and 11, then its content, then what follows it
 abbrev pub step : Next → (limit depth at : ℕ) → Bytes → (Content → Verdict) → (Content → Verdict) → Verdict
-step done limit depth at s content rest = Sound
-step left_over limit depth at s content rest = Refused (LeftOver at)
+step done limit depth at s content rest = Ok tt
+step left_over limit depth at s content rest = Err (LeftOver at)
 step (record-at p more) limit depth at s content rest =
     let following : Verdict = rest more in
     let whole : Verdict = and_then (content (content_at p (kind_of s))) following in
-    cond (short s) (Refused (ShortRecord at))
-    (cond (not (stands p (kind_of s))) (Refused (WrongKind at))
-    (cond (ltb limit depth) (Refused (TooDeep at))
-    (cond (nameless p (kind_of s) (content_of s)) (Refused (NoName at)) whole)))
+    cond (short s) (Err (ShortRecord at))
+    (cond (not (stands p (kind_of s))) (Err (WrongKind at))
+    (cond (ltb limit depth) (Err (TooDeep at))
+    (cond (nameless p (kind_of s) (content_of s)) (Err (NoName at)) whole)))
 
 -- a content's bytes s, which stand at place at of the card and hold records at this depth, at most limit deep; n bounds how many follow or hold one another
 unfoldable pub read : (limit n : ℕ) → Content → (depth at : ℕ) → Bytes → Verdict
-read limit zero c depth at s = Sound
+read limit zero c depth at s = Ok tt
 read limit (suc n) c depth at s =
     step (next c s) limit depth at s
     (λ inner. read limit n inner (depth + 1) (at + 6) (content_of s))

@@ -1,13 +1,13 @@
 -- What is no name, by the number of its place, its kind and how long it is. Assumes nothing.
-use mathlib.Core.Path.{◌≡◌, refl, sym, ap, ◌∙◌}
+use mathlib.Core.Path.{◌≡◌, refl, sym, ◌∙◌}
 use mathlib.Core.List.{[], ◌∷◌}
-use mathlib.Core.Bool.{Bool, true, false, ◌&&◌}
-use Prim.Native.Nat.{ℕ, ◌-◌, ◌<◌, ◌≤◌}
+use mathlib.Core.Bool.{true, false}
+use Prim.Native.Nat.{ℕ, ◌≤◌}
 use native.Mathlib.Omega.{arith}
 use native.Mathlib.Decide.{dec_le}
 use lib.ListN.{length, get_or}
 use lib.Dec.{eqb}
-use borrow.Author.Tests.{eqb-true, ne_eqb}
+use borrow.Author.Tests.{eqb-true}
 use Rattle.wire.specs.Numbers.{Bytes}
 use Rattle.records.specs.Kinds.{Place, kinds, name, seq, option}
 use Rattle.records.specs.Reading.{is_no_name, nameless}
@@ -32,29 +32,11 @@ module _ (p k : ℕ) (s : Bytes) where
       go (seq q) e = refl
       go (option q) e = refl
 
-  -- of a Text alone
-  pub no_text : (k ≡ 1 → ⊥) → nameless (place_of p) k s ≡ false
-  no_text n = go (place_of p)
-    where
-      go : (q : Place) → nameless q k s ≡ false
-      go (kinds from to) = refl
-      go name = ap (λ (b : Bool). b && is_no_name s) (ne_eqb k 1 n)
-      go (seq q) = refl
-      go (option q) = refl
-
   -- there, by its length
   module _ (e : p ≡ 3) (f : k ≡ 1) where
     due : nameless (place_of p) k s ≡ is_no_name s
     unfolding place_of
     due = rw (e, f)
-
-    pub name-long : 1 < length s → false ≡ nameless (place_of p) k s
-    name-long h = sym (due ∙ go s h)
-      where
-        go : (s : Bytes) → 1 < length s → is_no_name s ≡ false
-        go [] h = absurd (omega arith)
-        go (b ∷ []) h = absurd (omega arith)
-        go (b ∷ c ∷ s) h = refl
 
     pub name-empty : length s ≡ 0 → true ≡ nameless (place_of p) k s
     name-empty h = sym (due ∙ go s h)

@@ -157,10 +157,7 @@ pub fn table() -> [u64; 135]
 pub fn row_at(t: &[u64; 135], k: usize) -> u64
     ensures { result ≡ cond (ltb k 135) (get_or t.now k 0) 0 }
 {
-    if k < 135 {
-        return t[k];
-    }
-    0
+    t.get(k).copied().unwrap_or(0)
 }
 
 // The one kind that may stand at a place under 4.
@@ -214,18 +211,5 @@ pub fn may_stand(p: usize, k: usize) -> bool
 pub fn is_nameless(p: usize, k: usize, content: &[u8]) -> bool
     ensures { result ≡ nameless (place_of p) k content.now }
 {
-    if p != 0x03 {
-        return false;
-    }
-    if k != 0x01 {
-        return false;
-    }
-    let n = content.len();
-    if 1 < n {
-        return false;
-    }
-    if n == 0 {
-        return true;
-    }
-    content[0] == b'!'
+    matches!((p, k, content), (0x03, 0x01, [] | [b'!']))
 }

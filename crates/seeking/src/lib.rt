@@ -2,29 +2,22 @@
 #![tactic(auto)]
 
 ghost use Rattle.std.specs.Prelude.{◌≡◌, ◌-◌, ◌<◌, ◌≤◌};
-ghost use Rattle.prefix.specs.Prefix.{scope};
+ghost use Rattle.prefix.specs.Prefix.{scope_of};
 ghost use Rattle.chains.specs.Chains.{room as chains_room, has_wanted, is_other, is_wanted, may_be, may_have, seek as chains_seek};
 
-use chains::Want;
-use operation::Shortening;
+use chains::{Name, Want};
+use prefix::Scope;
 
 // Whether a base, as a word, is the one that is sought.
-fn has_wanted(
-    op: Shortening,
-    card: &[u8],
-    root: &[u8],
-    chain: &[usize],
-    want: Want,
-    w: usize,
-) -> bool
-    ensures { result ≡ has_wanted (scope op card.now root.now chain.now) want w }
+fn has_wanted(scope: &Scope<'_>, want: Want, w: usize) -> bool
+    ensures { result ≡ has_wanted (scope_of scope.now) want w }
 {
     match want {
         Want::Named => {
             return true;
         }
         Want::Based(v) => {
-            return comparing::same_base(op, card, root, chain, w, v);
+            return comparing::same_base(scope, w, v);
         }
         Want::Runtime => {}
     }
@@ -32,7 +25,7 @@ fn has_wanted(
     if at == 0 {
         return false;
     }
-    paths::is_runtime(reader::record_at(card, at))
+    paths::is_runtime(reader::record_at(scope.card, at))
 }
 
 // Whether a base, as a word, is surely not the one that is sought: both are paths of the card, and the numbers above their places differ.
@@ -52,20 +45,10 @@ fn is_other(want: Want, w: usize) -> bool
 }
 
 // Whether pair g has this name and what is sought. The numbers come first, that of the base before the name's: under one name there can be many bases.
-fn is_wanted(
-    op: Shortening,
-    card: &[u8],
-    root: &[u8],
-    chain: &[usize],
-    work: &[u32],
-    g: usize,
-    name: &[u8],
-    number: usize,
-    want: Want,
-) -> bool
+fn is_wanted(scope: &Scope<'_>, work: &[u32], g: usize, name: &Name<'_>, want: Want) -> bool
     requires { (0 < g) × (g ≤ chains_room work.now) }
     ensures { result
-        ≡ is_wanted (scope op card.now root.now chain.now) work.now name.now number want (g - 1) }
+        ≡ is_wanted (scope_of scope.now) work.now name.now.bytes.now name.now.number want (g - 1) }
 {
     let k = 4 * (g - 1);
     let w = wire::word(work[k + 2]);
@@ -73,14 +56,14 @@ fn is_wanted(
         return false;
     }
     let v = wire::word(work[k]);
-    if v / 65536 != number {
+    if v / 65536 != name.number {
         return false;
     }
-    let own = wire::part(card, v % 65536, wire::word(work[k + 1]));
-    if !comparing::same_name(op, own, name) {
+    let own = wire::part(scope.card, v % 65536, wire::word(work[k + 1]));
+    if !comparing::same_name(scope.op, own, name.bytes) {
         return false;
     }
-    has_wanted(op, card, root, chain, want, w)
+    has_wanted(scope, want, w)
 }
 
 // The first pair of the chain from a pair on of which the word at this field leaves open that it is sought: the number above the place is this one, or there
@@ -90,6 +73,7 @@ fn pass(work: &[u32], from: usize, field: usize, number: usize) -> usize
     ensures { result ≡ chains_seek (may_be work.now field number) work.now from }
 {
     let mut p = from;
+    // A while: it goes from link to link.
     while 0 < p {
         let ahead = p - 1;
         let k = 4 * ahead;
@@ -129,54 +113,35 @@ fn skip(work: &[u32], from: usize, number: usize, want: Want) -> usize
 }
 
 // What `seek` answers, by following the chain.
-fn seek_some(
-    op: Shortening,
-    card: &[u8],
-    root: &[u8],
-    chain: &[usize],
-    work: &[u32],
-    from: usize,
-    name: &[u8],
-    number: usize,
-    want: Want,
-) -> usize
+fn seek_some(scope: &Scope<'_>, work: &[u32], from: usize, name: &Name<'_>, want: Want) -> usize
     ensures { result ≡ chains_seek
-        (is_wanted (scope op card.now root.now chain.now) work.now name.now number want)
+        (is_wanted (scope_of scope.now) work.now name.now.bytes.now name.now.number want)
         work.now from }
 {
     if chains::room(work) < from {
         return 0;
     }
     let mut g = from;
+    // A while: it goes from link to link.
     while 0 < g {
-        if is_wanted(op, card, root, chain, work, g, name, number, want) {
+        if is_wanted(scope, work, g, name, want) {
             return g;
         }
         let after = chains::next(work, g);
-        g = skip(work, after, number, want);
+        g = skip(work, after, name.number, want);
     }
     0
 }
 
 // The first pair of the chain from a pair on that has this name, which has this number, and what is sought. Most chains end where they begin: those cost
 // no call.
-pub fn seek(
-    op: Shortening,
-    card: &[u8],
-    root: &[u8],
-    chain: &[usize],
-    work: &[u32],
-    from: usize,
-    name: &[u8],
-    number: usize,
-    want: Want,
-) -> usize
+pub fn seek(scope: &Scope<'_>, work: &[u32], from: usize, name: &Name<'_>, want: Want) -> usize
     ensures { result ≡ chains_seek
-        (is_wanted (scope op card.now root.now chain.now) work.now name.now number want)
+        (is_wanted (scope_of scope.now) work.now name.now.bytes.now name.now.number want)
         work.now from }
 {
     if from == 0 {
         return 0;
     }
-    seek_some(op, card, root, chain, work, from, name, number, want)
+    seek_some(scope, work, from, name, want)
 }

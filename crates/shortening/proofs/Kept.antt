@@ -1,4 +1,5 @@
 -- The promise, by what admission and measuring say. Assumes nothing.
+use Rattle.std.specs.Prelude.{Ok, Err}
 use mathlib.Core.Path.{◌≡◌, refl, sym, ap, ◌∙◌}
 use mathlib.Core.Bool.{cond}
 use mathlib.Core.List.{List, ◌++◌}
@@ -8,10 +9,10 @@ use native.Mathlib.Omega.{arith}
 use lib.ListN.{length, take, drop, get_or, replicate, length-drop, length-append}
 use lib.Dec.{ltb}
 use borrow.Author.Tests.{ltb-false, lt-ltb, le-ltb}
-use Rattle.answers.specs.declared.Answer.{Answer}
-use Rattle.answers.specs.declared.Answer.TheVariants.{Shortened, FullTable, NoSpace}
-use Rattle.answers.specs.declared.Verdict.{Verdict}
-use Rattle.answers.specs.declared.Verdict.TheVariants.{Sound, Refused}
+use Rattle.answers.specs.Answers.{Answer}
+use Rattle.answers.specs.declared.Refusal.{Refusal}
+use Rattle.answers.specs.declared.Refusal.TheVariants.{FullTable, NoSpace}
+use Rattle.answers.specs.Answers.{Verdict}
 use Rattle.wire.specs.Numbers.{Bytes}
 use Rattle.wire.proofs.Numbers.{are-bytes}
 use Rattle.rast.specs.Path.{whether}
@@ -29,8 +30,6 @@ use Rattle.operation.proofs.Weights.{plain-weight}
 use Rattle.chains.specs.Chains.{room}
 use Rattle.work.specs.Taken.{for_table}
 use Rattle.work.proofs.Lent.{most, words-all}
-use Rattle.measuring.specs.declared.Written.{Written}
-use Rattle.measuring.specs.declared.Written.TheVariants.{Full, Length}
 use Rattle.measuring.specs.Measured.{output, whole_output}
 use Rattle.measured.proofs.Sound.{FullAt, Bytes', Result, whole-sound}
 use Rattle.shortening.specs.Shortened.{answer_of, outcome, Promise, Answered}
@@ -50,7 +49,7 @@ promised pass card root out work a out' work' bc br e =
 -- what is made of a card that is admitted, by words that have room for as many pairs as there may be, or for all that the card can have
 module _ (op : Shortening) (weightless : weight_of op ≡ 0) (card root out : Bytes) (work : List ℕ)
     (bc : (i : ℕ) → get_or card i 0 < 256) (br : (i : ℕ) → get_or root i 0 < 256)
-    (is-sound : admitted (operation_of op) card root (length work) ≡ Sound) (words : List ℕ)
+    (is-sound : admitted (operation_of op) card root (length work) ≡ Ok tt) (words : List ℕ)
     (enough-words : FullAt op card root (length work) is-sound bc br (room words)
     ≡ FullAt op card root (length work) is-sound bc br (upstream.most_pairs (length work))) where
   abbrev Whole : Bytes
@@ -62,12 +61,12 @@ module _ (op : Shortening) (weightless : weight_of op ≡ 0) (card root out : By
   room-same : length Whole ≤ length out → length (Whole ++ drop (length Whole) out) ≡ length out
   room-same l = let a = length-append Whole (drop (length Whole) out) in let b = length-drop (length Whole) out in omega arith
 
-  module _ (w : Written) (out' : Bytes) (words' : List ℕ) (o : output w out' words' ≡ whole_output op card root words out) where
+  module _ (w : Answer) (out' : Bytes) (words' : List ℕ) (o : output w out' words' ≡ whole_output op card root words out) where
     result : Result op card root (length work) is-sound bc br words out (output w out' words')
     result = rw o (whole-sound op card root (length work) is-sound bc br weightless words out)
 
-    answer-is : (x : Option ℕ) → Place ≡ x → w ≡ whether x (Length (length Whole)) Full
-    answer-is x q = result.answer-is ∙ ap (λ (y : Option ℕ). whether y (Length (length Whole)) Full) (enough-words ∙ q)
+    answer-is : (x : Option ℕ) → Place ≡ x → w ≡ whether x (Ok (length Whole)) (λ place. Err (FullTable place))
+    answer-is x q = result.answer-is ∙ ap (λ (y : Option ℕ). whether y (Ok (length Whole)) (λ place. Err (FullTable place))) (enough-words ∙ q)
 
     out-is : (x : Option ℕ) → Place ≡ x → out' ≡ whether x (cond (ltb (length out) (length Whole)) out (Whole ++ drop (length Whole) out)) (λ place. out)
     out-is x q = result.out-is ∙ ap (λ (y : Option ℕ). whether y (cond (ltb (length out) (length Whole)) out (Whole ++ drop (length Whole) out))
@@ -88,12 +87,12 @@ module _ (op : Shortening) (weightless : weight_of op ≡ 0) (card root out : By
 -- a card refused, by any pass
 module _ (pass : Pass) (card root out : Bytes) (work : List ℕ) (bc : (i : ℕ) → get_or card i 0 < 256) (br : (i : ℕ) → get_or root i 0 < 256)
     (v : Verdict) (e : v ≡ admitted upstream card root (length work)) where
-  pub refused : (a : Answer) → v ≡ Refused a → Promise pass card root out work a out work
+  pub refused : {r : Answer} (a : Refusal) → r ≡ Err a → v ≡ Err a → Promise pass card root out work r out work
   unfolding shorten
-  refused a h = promised pass card root out work a out work bc br (rw (admitted-alike (repeats pass) card root (length work), ← e, h))
+  refused {r} a q h = promised pass card root out work r out work bc br (rw (q, admitted-alike (repeats pass) card root (length work), ← e, h))
 
-  module _ (h : v ≡ Sound) (used : ℕ) (u : used ≡ for_table (length work)) where
-    module _ (op : Shortening) (p : op ≡ plain_of pass) (w : Written) (out' : Bytes) (words : List ℕ)
+  module _ (h : v ≡ Ok tt) (used : ℕ) (u : used ≡ for_table (length work)) where
+    module _ (op : Shortening) (p : op ≡ plain_of pass) (w : Answer) (out' : Bytes) (words : List ℕ)
         (o : output w out' words ≡ whole_output op card root (take used work) out) where
       same-pass : pass_of op ≡ pass
       same-pass = ap pass_of p ∙ pass-plain pass
@@ -101,7 +100,7 @@ module _ (pass : Pass) (card root out : Bytes) (work : List ℕ) (bc : (i : ℕ)
       weightless : weight_of op ≡ 0
       weightless = ap weight_of p ∙ plain-weight pass
 
-      is-sound : admitted (operation_of op) card root (length work) ≡ Sound
+      is-sound : admitted (operation_of op) card root (length work) ≡ Ok tt
       is-sound = admitted-alike (repeats (pass_of op)) card root (length work) ∙ sym e ∙ h
 
       words_long : length words ≡ length (take used work)
@@ -128,11 +127,11 @@ answered p =
     }
 
 -- the answer, case by case
-pub answer-full : (w : Written) (place lent : ℕ) → w ≡ Full place → FullTable place ≡ answer_of w lent
-answer-full w place lent h = rw h
+pub answer-refused : {r w : Answer} (a : Refusal) (lent : ℕ) → r ≡ Err a → w ≡ Err a → r ≡ answer_of w lent
+answer-refused a lent q h = rw (q, h)
 
-pub answer-no-space : (w : Written) (n lent : ℕ) → w ≡ Length n → lent < n → NoSpace ≡ answer_of w lent
+pub answer-no-space : (w : Answer) (n lent : ℕ) → w ≡ Ok n → lent < n → (Err NoSpace) ≡ answer_of w lent
 answer-no-space w n lent h l = rw h (rw (lt-ltb lent n l))
 
-pub answer-room : (w : Written) (n lent : ℕ) → w ≡ Length n → n ≤ lent → Shortened n ≡ answer_of w lent
+pub answer-room : (w : Answer) (n lent : ℕ) → w ≡ Ok n → n ≤ lent → Ok n ≡ answer_of w lent
 answer-room w n lent h l = rw h (rw (le-ltb lent n l))

@@ -1,11 +1,12 @@
 -- The promise of a call with work words of its own. Assumes nothing.
+use Rattle.std.specs.Prelude.{Ok, Err}
 use mathlib.Core.Path.{◌≡◌, ap, ◌∙◌}
 use mathlib.Core.List.{List}
 use Prim.Native.Nat.{ℕ, ◌/◌, ◌<◌, ◌≤◌, min}
 use lib.ListN.{length, get_or, replicate}
-use Rattle.answers.specs.declared.Answer.{Answer}
-use Rattle.answers.specs.declared.Verdict.{Verdict}
-use Rattle.answers.specs.declared.Verdict.TheVariants.{Sound, Refused}
+use Rattle.answers.specs.Answers.{Answer}
+use Rattle.answers.specs.declared.Refusal.{Refusal}
+use Rattle.answers.specs.Answers.{Verdict}
 use Rattle.wire.specs.Numbers.{Bytes}
 use Rattle.rast.specs.Operation.{upstream}
 use Rattle.outcome.specs.Outcome.{admitted, shorten}
@@ -17,7 +18,6 @@ use Rattle.operation.specs.Operations.{pass_of, operation_of, plain_of, weight_o
 use Rattle.operation.proofs.Lawful.{pass-plain}
 use Rattle.operation.proofs.Weights.{plain-weight}
 use Rattle.chains.specs.Chains.{room}
-use Rattle.measuring.specs.declared.Written.{Written}
 use Rattle.measuring.specs.Measured.{output, whole_output}
 use Rattle.measured.proofs.Sound.{FullAt, few-full}
 use Rattle.shortening.specs.Shortened.{answer_of, Alone, Admitted}
@@ -28,14 +28,14 @@ abbrev own-words : List ℕ
 own-words = replicate 2048 0
 
 module _ (pass : Pass) (card root out : Bytes) (bc : (i : ℕ) → get_or card i 0 < 256) (br : (i : ℕ) → get_or root i 0 < 256) where
-  pub alone-refused : (v : Verdict) → v ≡ admitted upstream card root 2048 → (a : Answer) → v ≡ Refused a → Alone pass card root out a out
-  alone-refused v e a h = answered (refused pass card root out own-words bc br v e a h)
+  pub alone-refused : (v : Verdict) → v ≡ admitted upstream card root 2048 → {r : Answer} (a : Refusal) → r ≡ Err a → v ≡ Err a → Alone pass card root out r out
+  alone-refused v e a q h = answered (refused pass card root out own-words bc br v e a q h)
 
   module _ (is-admitted : Admitted card root) (op : Shortening) (p : op ≡ plain_of pass) where
-    admits : admitted (operation_of op) card root 2048 ≡ Sound
+    admits : admitted (operation_of op) card root 2048 ≡ Ok tt
     admits = admitted-alike (repeats (pass_of op)) card root 2048 ∙ is-admitted
 
-    pub alone-kept : (words : List ℕ) → min (length card / 18) 512 ≤ room words → room words ≤ 512 → (w : Written) (out' : Bytes) (words' : List ℕ)
+    pub alone-kept : (words : List ℕ) → min (length card / 18) 512 ≤ room words → room words ≤ 512 → (w : Answer) (out' : Bytes) (words' : List ℕ)
         → output w out' words' ≡ whole_output op card root words out → (a : Answer) → a ≡ answer_of w (length out') → Alone pass card root out a out'
     alone-kept words l m w out' words' o a f =
         answered

@@ -3,7 +3,7 @@
 
 ghost use Rattle.shortening_places.specs.Placed.{Promise};
 
-use answers::{Answer, Verdict};
+use answers::Refusal;
 use operation::Pass;
 use placing::Listed;
 
@@ -15,20 +15,11 @@ pub fn shorten_places(
     out: &mut [u8],
     work: &mut [u32],
     list: &mut [u32],
-) -> Listed
+) -> Result<Listed, Refusal>
     ensures { Promise pass card.now root.now out.old work.old list.old
         result out.new work.new list.new }
 {
-    let v = admission::admit(card, root, work.len());
-    match v {
-        Verdict::Sound => {}
-        Verdict::Refused(a) => {
-            return Listed {
-                answer: a,
-                entries: 0,
-            };
-        }
-    }
+    admission::admit(card, root, work.len())?;
     let used = work::for_table(work.len());
     let r = placing::write_places(pass, card, root, out, &mut work[..used], list);
     work::clear(work);

@@ -6,7 +6,7 @@ ghost use Rattle.chains.specs.Chains.{room};
 ghost use Rattle.shortening.specs.Shortened.{Admitted};
 ghost use Rattle.shortening_places.specs.Placed.{Alone};
 
-use answers::Verdict;
+use answers::Refusal;
 use operation::Pass;
 use placing::Listed;
 
@@ -18,28 +18,25 @@ fn shorten_by(
     out: &mut [u8],
     work: &mut [u32],
     list: &mut [u32],
-) -> Listed
+) -> Result<Listed, Refusal>
     requires { Admitted card.now root.now × (min (length card.now / 18) 512 ≤ room work.old) × (room work.old ≤ 512) }
     ensures { Alone pass card.now root.now out.old list.old result out.new list.new }
 {
     placing::write_places(pass, card, root, out, work, list)
 }
 
-// By 128 work words: a card of fewer than 594 bytes has at most 32 pairs.
-fn shorten_small(pass: Pass, card: &[u8], root: &[u8], out: &mut [u8], list: &mut [u32]) -> Listed
-    requires { Admitted card.now root.now × (length card.now ≤ 593) }
+// By N work words: fewer are made, and fewer buckets cleared, than a large card needs.
+fn shorten_with<const N: usize>(
+    pass: Pass,
+    card: &[u8],
+    root: &[u8],
+    out: &mut [u8],
+    list: &mut [u32],
+) -> Result<Listed, Refusal>
+    requires { Admitted card.now root.now × (min (length card.now / 18) 512 ≤ N / 4) × (N / 4 ≤ 512) }
     ensures { Alone pass card.now root.now out.old list.old result out.new list.new }
 {
-    let mut work: [u32; 128] = [0; 128];
-    shorten_by(pass, card, root, out, &mut work, list)
-}
-
-// By 2048 work words.
-fn shorten_large(pass: Pass, card: &[u8], root: &[u8], out: &mut [u8], list: &mut [u32]) -> Listed
-    requires { Admitted card.now root.now }
-    ensures { Alone pass card.now root.now out.old list.old result out.new list.new }
-{
-    let mut work: [u32; 2048] = [0; 2048];
+    let mut work = [0; N];
     shorten_by(pass, card, root, out, &mut work, list)
 }
 
@@ -50,21 +47,12 @@ pub fn shorten_places_alone(
     root: &[u8],
     out: &mut [u8],
     list: &mut [u32],
-) -> Listed
+) -> Result<Listed, Refusal>
     ensures { Alone pass card.now root.now out.old list.old result out.new list.new }
 {
-    let v = admission::admit(card, root, 2048);
-    match v {
-        Verdict::Sound => {}
-        Verdict::Refused(a) => {
-            return Listed {
-                answer: a,
-                entries: 0,
-            };
-        }
-    }
+    admission::admit(card, root, 2048)?;
     if card.len() < 594 {
-        return shorten_small(pass, card, root, out, list);
+        return shorten_with::<128>(pass, card, root, out, list);
     }
-    shorten_large(pass, card, root, out, list)
+    shorten_with::<2048>(pass, card, root, out, list)
 }

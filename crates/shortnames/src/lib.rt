@@ -3,11 +3,11 @@
 
 ghost use Rattle.std.specs.Prelude.{◌≡◌, ◌^◌, ◌≤◌, length};
 ghost use Rattle.records.specs.Record.{record_bytes};
-ghost use Rattle.prefix.specs.Prefix.{scope};
+ghost use Rattle.prefix.specs.Prefix.{scope_of};
 ghost use Rattle.laying.specs.Lays.{Laid, lay};
 ghost use Rattle.rewriting.specs.Shorts.{synonym_bytes, unfit as shorts_unfit, type_laid, expr_laid};
 
-use operation::Shortening;
+use prefix::Scope;
 
 // TIdentifier or Identifier of a name, by its kind.
 fn lay_named(name: &[u8], k: usize, out: &mut [u8], at: usize)
@@ -55,25 +55,22 @@ fn unfit(at: usize, w: usize, n: usize) -> bool
 
 // A TypeFromPath, wrapped w times where it is replaced, with its weight behind it.
 pub fn write_type(
-    op: Shortening,
-    card: &[u8],
-    root: &[u8],
-    chain: &[usize],
+    scope: &Scope<'_>,
     work: &[u32],
     r: &[u8],
     w: usize,
     out: &mut [u8],
     at: usize,
 ) -> usize
-    ensures { Laid out.old at (type_laid (scope op card.now root.now chain.now)
+    ensures { Laid out.old at (type_laid (scope_of scope.now)
         work.now at w r.now) result out.new }
 {
     if unfit(at, w, r.len()) {
         return at;
     }
-    if replacement::replaces_type(op, card, root, chain, work, r) {
+    if replacement::replaces_type(scope, work, r) {
         let end = lay_synonyms(replacement::name_in(r), r, w, out, at);
-        let weight = operation::weight(op);
+        let weight = operation::weight(scope.op);
         laying::lay_zeros(weight, out, end);
         return end + weight;
     }
@@ -82,26 +79,17 @@ pub fn write_type(
 }
 
 // An ExprFromPath: Identifier of its whole name where it is replaced, so that a mark is kept, with its weight behind it.
-pub fn write_expr(
-    op: Shortening,
-    card: &[u8],
-    root: &[u8],
-    chain: &[usize],
-    work: &[u32],
-    r: &[u8],
-    out: &mut [u8],
-    at: usize,
-) -> usize
-    ensures { Laid out.old at (expr_laid (scope op card.now root.now chain.now)
+pub fn write_expr(scope: &Scope<'_>, work: &[u32], r: &[u8], out: &mut [u8], at: usize) -> usize
+    ensures { Laid out.old at (expr_laid (scope_of scope.now)
         work.now at r.now) result out.new }
 {
     if unfit(at, 0, r.len()) {
         return at;
     }
-    if replacement::replaces_expr(op, card, root, chain, work, r) {
+    if replacement::replaces_expr(scope, work, r) {
         let name = replacement::name_in(r);
         let end = at + 12 + name.len();
-        let weight = operation::weight(op);
+        let weight = operation::weight(scope.op);
         lay_named(name, 0x42, out, at);
         laying::lay_zeros(weight, out, end);
         return end + weight;

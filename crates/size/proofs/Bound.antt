@@ -1,11 +1,11 @@
 -- An output is never longer than so many times its card: 42 times where a Fn's types are walked again, else 4 times. Assumes nothing.
+use Rattle.std.specs.Prelude.{Ok}
 use mathlib.Core.Path.{◌≡◌, refl, sym, ap, subst}
 use mathlib.Core.List.{[], ◌∷◌}
 use mathlib.Core.Bool.{Bool, false}
 use Prim.Native.Nat.{ℕ, zero, suc, ◌+◌, ◌*◌, ◌^◌, ◌≤◌, ◌<◌}
 use native.Mathlib.Omega.{arith}
 use lib.ListN.{length}
-use Rattle.answers.specs.declared.Verdict.TheVariants.{Sound}
 use Rattle.wire.specs.Numbers.{Bytes, AreBytes}
 use Rattle.records.specs.Record.{Record, Records, node, nil, ◌▸◌, children, deep, deep_all, set_nth, map_all, encode, tree, is}
 use Rattle.records.specs.Kinds.{kinds, mod', these, any, row_of, content_at}
@@ -95,7 +95,7 @@ card-bound again root card h e =
 
 -- 42 times will do for either operation
 pub card-most : (again : Bool) (root : Path) (card : Bytes) → AreBytes card
-    → reading (shortening again).card_depth (shortening again).outermost card ≡ Sound
+    → reading (shortening again).card_depth (shortening again).outermost card ≡ Ok tt
     → length (encode (apply (shortening again) root (tree card))) ≤ 42 * length card
 card-most again root card h e =
     let b = card-bound again root card h e in
@@ -103,12 +103,12 @@ card-most again root card h e =
     omega arith
 
 -- THE THEOREM of 02, request 2
-pub straight-bound : (root : Path) (card : Bytes) → AreBytes card → reading 48 mod' card ≡ Sound
+pub straight-bound : (root : Path) (card : Bytes) → AreBytes card → reading 48 mod' card ≡ Ok tt
     → length (encode (apply straight root (tree card))) ≤ 4 * length card
 straight-bound = card-bound false
 
 -- so the four bytes of a record's length hold an output's
 pub output-small : (again : Bool) (root : Path) (card : Bytes) → AreBytes card
-    → reading (shortening again).card_depth (shortening again).outermost card ≡ Sound → length card ≤ (shortening again).most_card_bytes
+    → reading (shortening again).card_depth (shortening again).outermost card ≡ Ok tt → length card ≤ (shortening again).most_card_bytes
     → length (encode (apply (shortening again) root (tree card))) < 2 ^ 32
 output-small again root card h e l = let b = card-most again root card h e in omega arith

@@ -1,6 +1,5 @@
 -- 01, applyPrefix, and 02, request 2: how long an output can be. Assumes nothing: these are definitions.
-use Rattle.std.specs.Prelude.{◌≡◌, cond, ℕ, ◌*◌, ◌≤◌, length}
-use Rattle.answers.specs.declared.Verdict.TheVariants.{Sound}
+use Rattle.std.specs.Prelude.{◌≡◌, cond, ℕ, ◌*◌, ◌≤◌, length, Ok}
 use Rattle.wire.specs.Numbers.{Bytes, AreBytes}
 use Rattle.records.specs.Record.{encode, tree}
 use Rattle.records.specs.Reading.{reading}
@@ -15,5 +14,5 @@ times op = cond op.walks_again 42 4
 -- of a card's bytes that read sound, whatever the root
 abbrev pub Bounded : Operation → Type 0
 Bounded op =
-    (root : Path) (card : Bytes) → AreBytes card → reading op.card_depth op.outermost card ≡ Sound →
+    (root : Path) (card : Bytes) → AreBytes card → reading op.card_depth op.outermost card ≡ Ok tt →
     length (encode (apply op root (tree card))) ≤ times op * length card

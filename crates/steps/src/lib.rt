@@ -9,30 +9,12 @@ ghost use Rattle.steps.specs.Steps.{is_left};
 pub fn stands(from: usize, to: usize, k: usize) -> bool
     ensures { result ≡ kinds_stands (kinds from to) k }
 {
-    if k < from {
-        return false;
-    }
-    k <= to
+    (from..=to).contains(&k)
 }
 
 // Whether a record is left as it is where paths are replaced: a Text, a Kept, a path, a module, a use.
 pub fn is_left(k: usize) -> bool
     ensures { result ≡ is_left k }
 {
-    if k == 1 {
-        return true;
-    }
-    if k == 3 {
-        return true;
-    }
-    if stands(0x10, 0x13, k) {
-        return true;
-    }
-    if stands(0x60, 0x62, k) {
-        return true;
-    }
-    if k == 0x6A {
-        return true;
-    }
-    k == 0x80
+    matches!(k, 1 | 3 | 0x10..=0x13 | 0x60..=0x62 | 0x6A | 0x80)
 }

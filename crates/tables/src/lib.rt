@@ -2,12 +2,12 @@
 #![tactic(auto)]
 
 ghost use Rattle.std.specs.Prelude.{◌≡◌, ◌&&◌, ◌*◌, min, length, eqb};
-ghost use Rattle.prefix.specs.Prefix.{scope};
+ghost use Rattle.prefix.specs.Prefix.{scope_of};
 ghost use Rattle.adding.specs.Adds.{table};
 ghost use Rattle.adding.specs.Settles.{settled_table};
 ghost use Rattle.tables.specs.Tables.{table_of, has_room, is_small};
 
-use operation::Shortening;
+use prefix::Scope;
 
 // The place in the card of the module whose table words hold, and how many pairs it has.
 #[derive(Clone, Copy)]
@@ -15,6 +15,12 @@ pub struct Held {
     pub owner: usize,
     pub pairs: usize,
 }
+
+// No table: no module stands at a place that a half word does not hold.
+pub const NONE: Held = Held {
+    owner: 65537,
+    pairs: 0,
+};
 
 // The chains of a table that is not full are set anew over its own words: those behind its pairs are free.
 pub fn settle(work: &mut [u32], pairs: usize)
@@ -29,23 +35,14 @@ pub fn settle(work: &mut [u32], pairs: usize)
 
 // The table of the module at a place. Words that hold it already, as `held` says, are left: no record is walked. A table that is collected and not full
 // is settled: the words behind its pairs are free.
-pub fn table_of(
-    op: Shortening,
-    card: &[u8],
-    at: usize,
-    left: usize,
-    root: &[u8],
-    chain: &[usize],
-    work: &mut [u32],
-    held: Held,
-) -> Held
+pub fn table_of(scope: &Scope<'_>, at: usize, left: usize, work: &mut [u32], held: Held) -> Held
     ensures { (result.owner ≡ at) × (table result.pairs work.new
-        ≡ table_of (scope op card.now root.now chain.now) left at held.owner (table held.pairs work.old)) }
+        ≡ table_of (scope_of scope.now) left at held.owner (table held.pairs work.old)) }
 {
     if held.owner == at {
         return held;
     }
-    let n = collecting::collect_module(op, card, at, left, root, chain, work);
+    let n = collecting::collect_module(scope, at, left, work);
     settle(work, n);
     Held {
         owner: at,

@@ -4,19 +4,23 @@
 ghost use Rattle.std.specs.Prelude.{◌≡◌, ◌≤◌, length};
 ghost use Rattle.std.specs.Counts.{IsPrefixLen};
 
-use answers::Answer;
+use answers::Refusal;
 use std::io;
 use std::io::Read;
 
-// Room for the whole text.
-pub fn room() -> [u8; 2000000]
-    ensures { 2000000 ≡ length result }
+// Room for the whole text of cases.
+pub type Text = [u8; 2000000];
+
+// So many zeros. Where they are a great many, a proof would follow the literal [0; N] number by number.
+pub fn room<T: Copy + Default, const N: usize>() -> [T; N]
+    ensures { length result ≡ N }
 {
-    [0; 2000000]
+    [T::default(); N]
 }
 
-// Reads until text is full, the input ends or a read fails, and answers how many bytes it put at the front of text.
-fn read_full(input: &mut impl Read, text: &mut [u8]) -> usize
+// Reads until text is full, the input ends or a read fails, and answers how many bytes it put at the front of text: std's read_exact doesn't say how many
+// there are ahead of an end.
+pub fn read_full(input: &mut impl Read, text: &mut [u8]) -> usize
     ensures { IsPrefixLen result text.new }
 {
     let mut done = 0;
@@ -52,57 +56,28 @@ pub fn no_case(rt: &impl Print) -> io::Result<()> {
     println!(rt; "no case: write ROOT CARD WORDS, the first two in hexadecimal, - for no bytes")
 }
 
-fn digit(n: u8) -> u8
-    requires { n ≤ 15 }
-{
-    if n < 10 {
-        return b'0' + n;
-    }
-    b'a' + (n - 10)
-}
+const DIGITS: &[u8; 16] = b"0123456789abcdef";
 
-// Puts the digits of s at the front of text, as far as it has room; answers how many.
-fn put_digits(s: &[u8], text: &mut [u8]) -> usize {
-    let room = text.len() / 2;
-    let mut i = 0;
-    while i < room {
-        if s.len() <= i {
-            return 2 * i;
-        }
-        let b = s[i];
-        text[2 * i] = digit(b / 16);
-        text[2 * i + 1] = digit(b % 16);
-        i += 1;
-    }
-    2 * i
-}
-
-// At most 1024 bytes of s, from a place on, in hexadecimal.
-fn say_some(rt: &impl Print, s: &[u8], from: usize) -> io::Result<()> {
-    let mut text = [0u8; 2048];
-    let n = put_digits(wire::part(s, from, s.len()), &mut text);
-    rt.write_all(wire::part(&text, 0, n))
-}
-
-// Bytes in hexadecimal; - for none.
+// Bytes in hexadecimal, 1024 at a time; - for none.
 pub fn say_bytes(rt: &impl Print, s: &[u8]) -> io::Result<()> {
-    if s.len() == 0 {
-        rt.write_all(b"-")?;
+    if s.is_empty() {
+        return rt.write_all(b"-");
     }
-    let mut i = 0;
-    while i < s.len() {
-        say_some(rt, s, i)?;
-        if s.len() - i <= 1024 {
-            return Ok(());
+    let mut text = [[0u8; 2]; 1024];
+    for part in s.chunks(1024) {
+        for (b, pair) in part.iter().zip(&mut text) {
+            *pair = [DIGITS[usize::from(b / 16)], DIGITS[usize::from(b % 16)]];
         }
-        i += 1024;
+        rt.write_all(text[..part.len()].as_flattened())?;
     }
     Ok(())
 }
 
 // A refusal: its number and its place.
-pub fn say_refusal(rt: &impl Print, a: Answer) -> io::Result<()> {
-    let number = answers::number(a);
-    let place = answers::value(a);
-    println!(rt; "{number} {place}")
+pub fn say_refusal(rt: &impl Print, refusal: Refusal) -> io::Result<()> {
+    println!(rt;
+        "{} {}",
+        answers::number(Err(refusal)),
+        answers::value(Err(refusal))
+    )
 }

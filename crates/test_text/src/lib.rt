@@ -2,66 +2,62 @@
 // line is a case. Nothing is required: where a digit is none, or there is no room, decoding stops there.
 #![tactic(auto)]
 
-ghost use Rattle.std.specs.Prelude.{◌≡◌, ◌+◌, ◌-◌, ◌≤◌, length, take, drop};
+ghost use Rattle.std.specs.Prelude.{◌≡◌, ◌+◌, ◌-◌, ◌≤◌, ◌<◌, length, take, drop, IfSome};
 ghost use Rattle.test_text.specs.Text.{FirstAt, until as text_until, beyond as text_beyond, hex_value, hex_first, Decoded, decimal_of};
-ghost use Rattle.test_text.specs.Text.{are_digits, is_hex, is_number, Apart};
+ghost use Rattle.test_text.specs.Text.{is_digit, are_digits, is_hex, is_number, Apart};
 
-// What a line says.
+// A line that is a case: how many bytes its root and its card have, and how many words there are.
 #[derive(Clone, Copy)]
-pub enum Line {
-    // a case: how many bytes the root and the card have, and how many words there are
-    Case(usize, usize, usize),
-    NoCase,
+pub struct Case {
+    pub root: usize,
+    pub card: usize,
+    pub words: usize,
 }
 
-// The place of the first byte b of s: the end of a field or of a line; s's length where it has none.
-pub fn find(s: &[u8], b: u8) -> usize
+// The place of the first byte b of s: the end of a field or of a line.
+pub fn find(s: &[u8], b: u8) -> Option<usize>
     ensures { FirstAt s.now b result }
 {
-    let mut i = 0;
-    while i < s.len() {
-        if s[i] == b {
-            return i;
-        }
-        i += 1;
-    }
-    i
+    s.iter().position(|x| *x == b)
 }
 
 // The part of s that ends at e.
 pub fn front(s: &[u8], e: usize) -> &[u8]
     ensures { result.now ≡ take e s.now }
 {
-    if e < s.len() {
-        return &s[..e];
-    }
-    s
+    s.get(..e).unwrap_or(s)
 }
 
 // What follows the byte at e.
 pub fn past(s: &[u8], e: usize) -> &[u8]
     ensures { result.now ≡ drop (e + 1) s.now }
 {
-    let len = s.len();
-    if e < len {
-        let next = e + 1;
-        return &s[next..];
+    match s.get(e..) {
+        Some([_, rest @ ..]) => rest,
+        _ => &[],
     }
-    &s[len..]
 }
 
 // What stands ahead of the first byte b: a field, or a line.
+#[tactic(auto, using(crate::proofs::Fields::until_first, crate::proofs::Fields::until_none))]
 pub fn until(s: &[u8], b: u8) -> &[u8]
     ensures { result.now ≡ text_until b s.now }
 {
-    front(s, find(s, b))
+    match find(s, b) {
+        Some(e) => front(s, e),
+        None => s,
+    }
 }
 
 // What follows the first byte b.
+#[tactic(auto, using(crate::proofs::Fields::beyond_first, crate::proofs::Fields::beyond_none))]
 pub fn beyond(s: &[u8], b: u8) -> &[u8]
     ensures { result.now ≡ text_beyond b s.now }
 {
-    past(s, find(s, b))
+    match find(s, b) {
+        Some(e) => past(s, e),
+        None => &[],
+    }
 }
 
 // The line of text that starts at i.
@@ -71,141 +67,107 @@ pub fn line_at(text: &[u8], i: usize) -> &[u8]
     until(wire::part(text, i, text.len()), b'\n')
 }
 
-// The value of a hexadecimal digit, and 16 of any other byte.
-pub fn hex_value(b: u8) -> usize
-    ensures { (result ≡ hex_value b) × (result ≤ 16) }
+// The value of a hexadecimal digit, 0 to 9 and a to f.
+#[tactic(auto, unfolding(crate::specs::Text::hex_value))]
+pub fn hex_value(b: u8) -> Option<u8>
+    ensures { (result ≡ hex_value b) × IfSome result (λ v. v < 16) }
 {
-    if b < b'0' {
-        return 16;
+    match b {
+        b'0'..=b'9' => Some(b - b'0'),
+        b'a'..=b'f' => Some(b - b'a' + 10),
+        _ => None,
     }
-    if b <= b'9' {
-        return wire::wide(b) - 48;
-    }
-    if b < b'a' {
-        return 16;
-    }
-    if b <= b'f' {
-        return wire::wide(b) - 87;
-    }
-    16
 }
 
-// The byte that the first two digits of s say, and 256 where they are none.
-pub fn hex_byte(s: &[u8]) -> usize
-    ensures { (result ≡ hex_first s.now) × (result ≤ 256) }
+// The byte that the first two digits of s say.
+#[tactic(auto, unfolding(crate::specs::Text::hex_first, crate::specs::Text::hex_pair, crate::specs::Text::hex_joined))]
+pub fn hex_byte(s: &[u8]) -> Option<u8>
+    ensures { (result ≡ hex_first s.now) × IfSome result (λ v. v < 256) }
 {
-    if s.len() < 2 {
-        return 256;
+    match s {
+        [a, b, ..] => Some(hex_value(*a)? * 16 + hex_value(*b)?),
+        _ => None,
     }
-    let a = hex_value(s[0]);
-    let b = hex_value(s[1]);
-    if 16 <= a {
-        return 256;
-    }
-    if 16 <= b {
-        return 256;
-    }
-    a * 16 + b
 }
 
 // Puts the bytes that digits say, two to a byte, at the front of out, as far as the digits go and out has room; answers how many.
 pub fn decode(s: &[u8], out: &mut [u8]) -> usize
     ensures { Decoded s.now out.old result out.new }
 {
-    let mut n = 0;
-    while n < out.len() {
-        let at = n * 2;
-        if s.len() <= at {
+    let most = out.len().min(s.len() / 2);
+    for n in 0..most {
+        let Some(b) = hex_byte(&s[n * 2..]) else {
             return n;
-        }
-        let b = hex_byte(&s[at..]);
-        if 256 <= b {
-            return n;
-        }
-        out[n] = b as u8;
-        n += 1;
+        };
+        out[n] = b;
     }
-    n
+    most
+}
+
+// Whether a byte is a digit under base.
+#[tactic(auto, unfolding(crate::specs::Text::is_digit, crate::specs::Text::is_value))]
+fn is_digit(b: u8, base: u8) -> bool
+    ensures { result ≡ is_digit base b }
+{
+    hex_value(b).is_some_and(|v| v < base)
 }
 
 // The number that the decimal digits at the front of s say, up to the digit that takes it to 2 ^ 32 or past it.
+#[tactic(auto, using(crate::proofs::Text::decimal_stop, crate::proofs::Text::decimal_end))]
 pub fn decimal(s: &[u8]) -> usize
     ensures { result ≡ decimal_of 0 s.now }
 {
     let mut n = 0;
-    let mut i = 0;
-    while i < s.len() {
-        let d = hex_value(s[i]);
-        if 10 <= d {
-            return n;
+    for b in s {
+        match hex_value(*b) {
+            Some(d) if d < 10 && n < 4294967296 => n = n * 10 + usize::from(d),
+            _ => break,
         }
-        if 4294967296 <= n {
-            return n;
-        }
-        n = n * 10 + d;
-        i += 1;
     }
     n
 }
 
 // Whether every byte is a digit under base.
-fn are_digits(s: &[u8], base: usize) -> bool
+fn are_digits(s: &[u8], base: u8) -> bool
     ensures { result ≡ are_digits base s.now }
 {
-    let mut i = 0;
-    while i < s.len() {
-        if base <= hex_value(s[i]) {
-            return false;
-        }
-        i += 1;
-    }
-    true
+    s.iter().all(|b| is_digit(*b, base))
 }
 
 // Whether a field says bytes: it is -, for none, or hexadecimal digits, two to a byte.
+#[tactic(auto, using(crate::proofs::Fields::dash_is), unfolding(crate::specs::Text::is_hex))]
 pub fn is_hex(s: &[u8]) -> bool
     ensures { result ≡ is_hex s.now }
 {
-    if wire::same(s, b"-") {
-        return true;
+    match s {
+        b"-" => true,
+        [] => false,
+        _ => s.len() % 2 == 0 && are_digits(s, 16),
     }
-    if s.len() == 0 {
-        return false;
-    }
-    if s.len() % 2 != 0 {
-        return false;
-    }
-    are_digits(s, 16)
 }
 
 // Whether a field is a decimal number.
+#[tactic(auto, unfolding(crate::specs::Text::is_number))]
 pub fn is_number(s: &[u8]) -> bool
     ensures { result ≡ is_number s.now }
 {
-    if s.len() == 0 {
-        return false;
-    }
-    are_digits(s, 10)
+    !s.is_empty() && are_digits(s, 10)
 }
 
 // Takes a line ROOT CARD WORDS apart. A field that is longer than its buffer fills it.
-pub fn take_apart(line: &[u8], root: &mut [u8], card: &mut [u8]) -> Line
+pub fn take_apart(line: &[u8], root: &mut [u8], card: &mut [u8]) -> Option<Case>
     ensures { Apart line.now root.old card.old result root.new card.new }
 {
     let first = until(line, b' ');
     let rest = beyond(line, b' ');
     let second = until(rest, b' ');
     let third = beyond(rest, b' ');
-    if !is_hex(first) {
-        return Line::NoCase;
+    if !is_hex(first) || !is_hex(second) || !is_number(third) {
+        return None;
     }
-    if !is_hex(second) {
-        return Line::NoCase;
-    }
-    if !is_number(third) {
-        return Line::NoCase;
-    }
-    let n = decode(first, root);
-    let m = decode(second, card);
-    Line::Case(n, m, decimal(third))
+    Some(Case {
+        root: decode(first, root),
+        card: decode(second, card),
+        words: decimal(third),
+    })
 }

@@ -4,11 +4,11 @@
 
 ghost use Rattle.std.specs.Prelude.{◌≡◌, cond, length};
 ghost use Rattle.factor_paths.specs.LookUp.{bare};
-ghost use Rattle.prefix.specs.Prefix.{scope};
+ghost use Rattle.prefix.specs.Prefix.{scope_of};
 ghost use Rattle.adding.specs.Adds.{table};
 ghost use Rattle.visiting.specs.Visits.{path_added, name_added};
 
-use operation::Shortening;
+use prefix::Scope;
 
 // How long a name is as it is collected: that of an expression loses a final '!'.
 fn name_length(name: &[u8], in_expr: bool) -> usize
@@ -26,26 +26,23 @@ fn name_length(name: &[u8], in_expr: bool) -> usize
 
 // VisitTypeSingle and VisitExprSingle: the path in the content of a TypeFromPath or an ExprFromPath, unless its base is Self.
 pub fn add_path(
-    op: Shortening,
-    card: &[u8],
+    scope: &Scope<'_>,
     from: usize,
     to: usize,
     in_expr: bool,
-    root: &[u8],
-    chain: &[usize],
     work: &mut [u32],
     n: usize,
 ) -> usize
     ensures { table result work.new
-        ≡ path_added (scope op card.now root.now chain.now) in_expr (table n work.old) from to }
+        ≡ path_added (scope_of scope.now) in_expr (table n work.old) from to }
 {
-    if 65536 < card.len() {
+    if 65536 < scope.card.len() {
         return n;
     }
     if to < from {
         return n;
     }
-    let c = wire::part(card, from, to - from);
+    let c = wire::part(scope.card, from, to - from);
     if reader::record_kind(c) != 0x13 {
         return n;
     }
@@ -59,41 +56,28 @@ pub fn add_path(
     let base = from + 6;
     let at = base + 10 + reader::record_length(p);
     let len = name_length(reader::content(reader::rest(p)), in_expr);
-    adding::add(
-        op,
-        card,
-        root,
-        chain,
-        work,
-        n,
-        at as u32,
-        len as u32,
-        base as u16,
-    )
+    adding::add(scope, work, n, at as u32, len as u32, base as u16)
 }
 
 // VisitModDeclSingle: the own name of a declaration of kind k with this content, with the prefix.
 pub fn add_name(
-    op: Shortening,
-    card: &[u8],
+    scope: &Scope<'_>,
     from: usize,
     to: usize,
     k: usize,
-    root: &[u8],
-    chain: &[usize],
     work: &mut [u32],
     n: usize,
 ) -> usize
     ensures { table result work.new
-        ≡ name_added (scope op card.now root.now chain.now) k (table n work.old) from to }
+        ≡ name_added (scope_of scope.now) k (table n work.old) from to }
 {
-    if 65536 < card.len() {
+    if 65536 < scope.card.len() {
         return n;
     }
     if to < from {
         return n;
     }
-    let c = wire::part(card, from, to - from);
+    let c = wire::part(scope.card, from, to - from);
     let o = fields::name_at(c, k);
     if o == 0 {
         return n;
@@ -102,15 +86,5 @@ pub fn add_name(
         return n;
     }
     let len = reader::content(wire::part(c, o, c.len())).len();
-    adding::add(
-        op,
-        card,
-        root,
-        chain,
-        work,
-        n,
-        (from + o + 6) as u32,
-        len as u32,
-        0,
-    )
+    adding::add(scope, work, n, (from + o + 6) as u32, len as u32, 0)
 }

@@ -2,7 +2,7 @@
 use mathlib.Core.Path.{◌≡◌, refl, ap, sym, ◌∙◌}
 use mathlib.Core.List.{[], ◌∷◌, ◌++◌}
 use mathlib.Core.Bool.{Bool, true, false, ◌&&◌, and_assoc}
-use Prim.Native.Nat.{ℕ, suc, ◌+◌, ◌-◌, ◌*◌, ◌^◌, ◌<◌, ◌≤◌}
+use Prim.Native.Nat.{ℕ, suc, ◌+◌, ◌-◌, ◌*◌, ◌<◌, ◌≤◌}
 use native.Mathlib.Omega.{arith}
 use native.Mathlib.Numerals.{add-one}
 use lib.ListN.{length, take, drop, get_or, length-drop, drop_of_length-le, take-append-drop}
@@ -32,36 +32,38 @@ same-parts (x ∷ s) (y ∷ h) t l =
     and_assoc (eqb x y) (same_bytes (take (length h) s) h) (same_bytes (drop (length h) s) t)
     ∙ ap (λ (b : Bool). eqb x y && b) (same-parts s h t (omega arith))
 
--- k bytes at a place, and a byte as it was read
+-- k bytes at a place
 abbrev Some : ℕ → Bytes → ℕ → Bytes
 Some k s at = take k (drop at s)
-
-abbrev Byte : Bytes → ℕ → ℕ → Type 0
-Byte s i b = (b ≡ get_or s i 0) × (b < 256)
 
 next-byte : (s : Bytes) (i j k : ℕ) → j ≡ i + 1 → i < length s → num (take (suc k) (drop i s)) ≡ get_or s i 0 + 256 * num (take k (drop j s))
 next-byte s i j k e h = let n = num-front s i k h in rw (e, add-one i) (omega arith)
 
 -- four bytes more in front
-next-four : (s : Bytes) (at k : ℕ) → at + 4 ≤ length s
+next-four : (s : Bytes) (at b c d e k : ℕ) → b ≡ at + 1 → c ≡ at + 2 → d ≡ at + 3 → e ≡ at + 4 → at + 4 ≤ length s
     → num (take (suc (suc (suc (suc k)))) (drop at s))
-    ≡ get_or s at 0 + 256 * get_or s (at + 1) 0 + 65536 * get_or s (at + 2) 0 + 16777216 * get_or s (at + 3) 0 + 4294967296 * num (take k (drop (at + 4) s))
-next-four s at k l =
-    let w = next-byte s at (at + 1) (suc (suc (suc k))) (omega arith) (omega arith) in
-    let x = next-byte s (at + 1) (at + 2) (suc (suc k)) (omega arith) (omega arith) in
-    let y = next-byte s (at + 2) (at + 3) (suc k) (omega arith) (omega arith) in
-    let z = next-byte s (at + 3) (at + 4) k (omega arith) (omega arith) in
+    ≡ get_or s at 0 + 256 * get_or s b 0 + 65536 * get_or s c 0 + 16777216 * get_or s d 0 + 4294967296 * num (take k (drop e s))
+next-four s at b c d e k p q r t l =
+    let w = next-byte s at b (suc (suc (suc k))) p (omega arith) in
+    let x = next-byte s b c (suc (suc k)) (omega arith) (omega arith) in
+    let y = next-byte s c d (suc k) (omega arith) (omega arith) in
+    let z = next-byte s d e k (omega arith) (omega arith) in
     omega arith
 
-pub four_is : (s : Bytes) (at a b c d : ℕ) → at + 4 ≤ length s → Byte s at a → Byte s (at + 1) b → Byte s (at + 2) c → Byte s (at + 3) d
-    → (a + 256 * b + 65536 * c + 16777216 * d ≡ num (take 4 (drop at s))) × (a + 256 * b + 65536 * c + 16777216 * d < 2 ^ 32)
+-- four bytes and eight as `from_le_bytes` adds them up
+pub four_is : (s : Bytes) (at : ℕ) → at + 4 ≤ length s
+    → num (take 4 (drop at s)) ≡ get_or s at 0 + get_or s (at + 1) 0 * 256 + get_or s (at + 2) 0 * 65536 + get_or s (at + 3) 0 * 16777216
 unfolding num
-four_is s at a b c d l p q r t = let f = next-four s at 0 l in (omega arith, omega arith)
+four_is s at l = let f = next-four s at (at + 1) (at + 2) (at + 3) (at + 4) 0 refl refl refl refl l in omega arith
 
-pub eight_is : (s : Bytes) (at m n : ℕ) → at + 8 ≤ length s → m ≡ num (take 4 (drop at s)) → n ≡ num (take 4 (drop (at + 4) s))
-    → m + 4294967296 * n ≡ num (Some 8 s at)
+pub eight_is : (s : Bytes) (at : ℕ) → at + 8 ≤ length s
+    → num (Some 8 s at) ≡ get_or s at 0 + get_or s (at + 1) 0 * 256 + get_or s (at + 2) 0 * 65536 + get_or s (at + 3) 0 * 16777216
+    + get_or s (at + 4) 0 * 4294967296 + get_or s (at + 5) 0 * 1099511627776 + get_or s (at + 6) 0 * 281474976710656 + get_or s (at + 7) 0 * 72057594037927936
 unfolding num
-eight_is s at m n l p q = let f = next-four s at 0 (omega arith) in let g = next-four s at 4 (omega arith) in omega arith
+eight_is s at l =
+    let f = next-four s at (at + 1) (at + 2) (at + 3) (at + 4) 4 refl refl refl refl (omega arith) in
+    let g = next-four s (at + 4) (at + 5) (at + 6) (at + 7) (at + 8) 0 (omega arith) (omega arith) (omega arith) (omega arith) (omega arith) in
+    omega arith
 
 some-long : (k : ℕ) (s : Bytes) (at : ℕ) → at + k ≤ length s → length (Some k s at) ≡ k
 some-long k s at h = let d = length-drop at s in length-take-le k (drop at s) (omega arith)

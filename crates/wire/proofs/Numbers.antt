@@ -2,8 +2,8 @@
 use mathlib.Core.Path.{◌≡◌, refl, ap, ap₂, sym, ◌∙◌}
 use mathlib.Core.List.{[], ◌∷◌, ◌++◌}
 use mathlib.Core.Bool.{Bool, true, false, ◌&&◌}
-use Prim.Native.Nat.{ℕ, zero, suc, ◌+◌, ◌-◌, ◌*◌, ◌/◌, ◌%◌, ◌^◌, ◌<◌, ◌≤◌}
-use native.Mathlib.Nat.{pow-suc, pow-le-pow_right, div-lt_iff_lt-mul, mod-lt, zero-lt-suc}
+use Prim.Native.Nat.{ℕ, zero, suc, ◌+◌, ◌*◌, ◌/◌, ◌%◌, ◌^◌, ◌<◌, ◌≤◌}
+use native.Mathlib.Nat.{pow-suc, div-lt_iff_lt-mul, mod-lt, zero-lt-suc}
 use native.Mathlib.Omega.{arith}
 use lib.ListN.{length, take, drop, get_or, drop_of_length-le}
 use lib.Seq.{take_at, drop_at, take-nil, drop-cons}
@@ -105,50 +105,6 @@ num-front s at k h = rw (drop-cons s at 0) (omega arith)
 pub num-past : (s : Bytes) (at k : ℕ) → length s ≤ at → num (take k (drop at s)) ≡ 0
 unfolding num
 num-past s at k h = rw (drop_of_length-le s {i = at} h, take-nil k)
-
--- a number read from its last byte to its first: what has been gathered when i bytes are left
-pub record Gathered (s : Bytes) (from w n i : ℕ) : Type 0 where
-  pub left : i ≤ w
-  pub is : n ≡ num (take (w - i) (drop (from + i) s))
-  pub small : n < 256 ^ (w - i)
-
-pub gathered_none : (s : Bytes) (from w : ℕ) → Gathered s from w 0 w
-unfolding num
-gathered_none s from w = let e : w - w ≡ 0 = omega arith in record { left = omega arith; is = rw e; small = rw e (omega arith) }
-
-pub gathered-byte : (s : Bytes) (from w n i : ℕ) → 0 < i → from + (i - 1) < length s → get_or s (from + (i - 1)) 0 < 256 → Gathered s from w n i
-    → Gathered s from w (n * 256 + get_or s (from + (i - 1)) 0) (i - 1)
-gathered-byte s from w n i p h b g =
-    let e : w - (i - 1) ≡ suc (w - i) = (let l = g.left in omega arith) in
-    let f : suc (from + (i - 1)) ≡ from + i = omega arith in
-    record {
-      left = (let l = g.left in omega arith);
-      is = rw (e, num-front s (from + (i - 1)) (w - i) h, f, ← g.is);
-      small = rw (e, pow-suc 256 (w - i)) (let l = g.small in omega arith);
-    }
-
-pub gathered-past : (s : Bytes) (from w n i : ℕ) → 0 < i → length s ≤ from + (i - 1) → Gathered s from w n i → Gathered s from w n (i - 1)
-gathered-past s from w n i p h g =
-    let z : n ≡ 0 = g.is ∙ num-past s (from + i) (w - i) (omega arith) in
-    let m : 256 ^ (w - i) ≤ 256 ^ (w - (i - 1)) = pow-le-pow_right (zero-lt-suc 255) (let l = g.left in omega arith) in
-    record {
-      left = (let l = g.left in omega arith);
-      is = z ∙ sym (num-past s (from + (i - 1)) (w - (i - 1)) h);
-      small = (let l = g.small in omega arith);
-    }
-
-pub gathered-all : (s : Bytes) (from w n i : ℕ) → i ≤ 0 → Gathered s from w n i → (n ≡ num (take w (drop from s))) × (n < 256 ^ w)
-gathered-all s from w n i h g =
-    let a : w - i ≡ w = omega arith in
-    let b : from + i ≡ from = omega arith in
-    (g.is ∙ ap₂ (λ (x y : ℕ). num (take x (drop y s))) a b, rw a at g.small)
-
--- while a byte of four is left, what is gathered fits three
-pub gathered-below : (s : Bytes) (from w n i : ℕ) → w ≤ 4 → 0 < i → Gathered s from w n i → n < 16777216
-gathered-below s from w n i h p g =
-    let m : 256 ^ (w - i) ≤ 256 ^ 3 = pow-le-pow_right (zero-lt-suc 255) {i = w - i} {j = 3} (omega arith) in
-    let l = g.small in
-    omega arith
 
 -- what has a byte at every place is bytes
 pub are-bytes : (s : Bytes) → ((i : ℕ) → get_or s i 0 < 256) → AreBytes s

@@ -9,34 +9,22 @@ ghost use Rattle.work.specs.Taken.{for_table};
 pub fn for_table(lent: usize) -> usize
     ensures { result ≡ for_table lent }
 {
-    if lent < 4096 {
-        return lent;
-    }
-    4096
+    lent.min(4096)
 }
 
 // All of them zero.
 pub fn clear(work: &mut [u32])
     ensures { work.new ≡ replicate (length work.old) 0 }
 {
-    let mut i = 0;
-    while i < work.len() {
-        work[i] = 0;
-        i += 1;
-    }
+    work.fill(0);
 }
 
-// Words laid over others from the first on, as far as both reach.
+// Words laid over others from the first on, as far as both reach. Not by copy_from_slice: that needs memmove, and the library asks C for memcpy and memset alone.
 pub fn copy(from: &[u32], to: &mut [u32])
     ensures { to.new ≡ over from.now to.old }
 {
-    let mut end = to.len();
-    if from.len() < end {
-        end = from.len();
-    }
-    let mut n = 0;
-    while n < end {
+    let end = from.len().min(to.len());
+    for n in 0..end {
         to[n] = from[n];
-        n += 1;
     }
 }

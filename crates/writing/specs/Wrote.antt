@@ -1,5 +1,5 @@
 -- What a call of the ring leaves: the piece that it answers is what the definition makes. Assumes nothing: these are definitions.
-use Rattle.std.specs.Prelude.{◌≡◌, List, [], ℕ, ◌+◌, ◌-◌, ◌≤◌, length as long}
+use Rattle.std.specs.Prelude.{◌≡◌, List, [], ℕ, ◌+◌, ◌-◌, ◌≤◌, length as long, Option, None, Some}
 use Rattle.wire.specs.Numbers.{Bytes, between}
 use Rattle.records.specs.Record.{content_of}
 use Rattle.operation.specs.declared.Shortening.{Shortening}
@@ -7,6 +7,7 @@ use Rattle.adding.specs.Adds.{Table, table}
 use Rattle.gathering.specs.Gathers.{Span, span, spans_in}
 use Rattle.tables.specs.Tables.{last_words}
 use Rattle.laying.specs.Lays.{lay}
+use Rattle.writing.specs.declared.Piece.{Piece}
 use Rattle.modules.specs.Modules.{Made, made, ahead_in, mod_made, saved_made, inner_made, each_made, declaration_made, body_made, module_made}
 
 -- out and the words after a call, its four answers, and what is made
@@ -16,6 +17,15 @@ pub record Wrote (out after : Bytes) (words : List ℕ) (length full owner pairs
   pub full_is : full ≡ m.full
   pub owner-is : owner ≡ m.owner
   pub held-is : table pairs words ≡ m.held
+
+-- the place after that of the first module whose table is full, 0 where none is
+abbrev pub place_after : Option ℕ → ℕ
+place_after None = 0
+place_after (Some place) = place + 1
+
+-- the same of the piece that is answered
+abbrev pub Leaves : (out after : Bytes) (words : List ℕ) → Piece → Made → Type 0
+Leaves out after words p m = Wrote out after words p.length (place_after p.full) p.held.owner p.held.pairs m
 
 -- a part of a card, whose places fit a half word, and modules around it and in it that are no more than a card's
 pub record Within (from to : ℕ) (card : Bytes) (chain : List ℕ) (left : ℕ) : Type 0 where

@@ -8,265 +8,191 @@ ghost use Rattle.adding.specs.Adds.{table};
 ghost use Rattle.gathering.specs.Gathers.{span};
 ghost use Rattle.tables.specs.Tables.{is_small};
 ghost use Rattle.modules.specs.Modules.{first_full, module_made, card_made};
-ghost use Rattle.writing.specs.Wrote.{Wrote, Within, saved_at, inner_at, declaration_at, declarations_at, body_at, mod_at};
+ghost use Rattle.writing.specs.Wrote.{Leaves, place_after, Within, saved_at, inner_at, declaration_at, declarations_at, body_at, mod_at};
 
 use operation::Shortening;
+use prefix::Scope;
 use tables::Held;
 
-// How long what was made is; the place after that of the first module whose table is full, 0 where none is; whose table the words hold, and its pairs.
+// How long what was made is; the place of the first module whose table is full; the table that the words hold.
 #[derive(Clone, Copy)]
 pub struct Piece {
     pub length: usize,
-    pub full: usize,
-    pub owner: usize,
-    pub pairs: usize,
+    pub full: Option<usize>,
+    pub held: Held,
 }
 
-// The places of names, with one more.
+// The places of names, with one more: one by one, since copy_from_slice needs memmove (`work::copy`).
 fn extended(chain: &[usize], place: usize) -> [usize; 48]
     requires { length chain.now < 48 }
     ensures { take (length chain.now + 1) result ≡ chain.now ++ (place ∷ []) }
 {
     let mut names: [usize; 48] = [0; 48];
     let n = chain.len();
-    let mut i = 0;
-    while i < n {
+    for i in 0..n {
         names[i] = chain[i];
-        i += 1;
     }
     names[n] = place;
     names
 }
 
 // The first full table of two pieces.
-fn first_full(a: usize, b: usize) -> usize
-    ensures { result ≡ first_full a b }
+fn first_full(a: Option<usize>, b: Option<usize>) -> Option<usize>
+    ensures { place_after result ≡ first_full (place_after a) (place_after b) }
 {
-    if a == 0 {
-        return b;
-    }
-    a
+    a.or(b)
 }
 
 // A module: a Mod that is at most left deep is written anew, unless its table is full; anything else is left.
 #[cycle(write_body_write_declaration_write_declarations_write_inner_write_mod_write_module_write_saved)]
 fn write_module(
-    op: Shortening,
-    card: &[u8],
+    scope: &Scope<'_>,
     at: usize,
     to: usize,
     left: usize,
-    root: &[u8],
-    chain: &[usize],
     out: &mut [u8],
     work: &mut [u32],
-    owner: usize,
-    pairs: usize,
+    held: Held,
 ) -> Piece
-    requires { Within at to card.now chain.now left }
-    ensures { Wrote out.old out.new work.new result.length result.full result.owner result.pairs
-        (module_made op card.now root.now left chain.now (span at to) owner (table pairs work.old)) }
+    requires { Within at to scope.now.card.now scope.now.chain.now left }
+    ensures { Leaves out.old out.new work.new result
+        (module_made scope.now.op scope.now.card.now scope.now.root.now left scope.now.chain.now (span at to) held.owner (table held.pairs work.old)) }
 {
-    let r = wire::part(card, at, to - at);
+    let r = wire::part(scope.card, at, to - at);
     if left == 0 {
         laying::lay(r, out, 0);
         return Piece {
             length: r.len(),
-            full: 0,
-            owner: owner,
-            pairs: pairs,
+            full: None,
+            held,
         };
     }
     if reader::record_kind(r) != 0x60 {
         laying::lay(r, out, 0);
         return Piece {
             length: r.len(),
-            full: 0,
-            owner: owner,
-            pairs: pairs,
+            full: None,
+            held,
         };
     }
-    let names = extended(chain, fields::name_place(card, at));
-    let n = chain.len() + 1;
-    let inner = &names[..n];
-    let held = tables::table_of(
-        op,
-        card,
-        at,
-        left,
-        root,
-        inner,
-        work,
-        Held {
-            owner: owner,
-            pairs: pairs,
-        },
-    );
-    let mine = held.pairs;
-    if chains::room(work) < mine {
+    let names = extended(scope.chain, fields::name_place(scope.card, at));
+    let n = scope.chain.len() + 1;
+    let inner = Scope {
+        chain: &names[..n],
+        ..*scope
+    };
+    let own = tables::table_of(&inner, at, left, work, held);
+    if chains::room(work) < own.pairs {
         return Piece {
             length: 0,
-            full: at + 1,
-            owner: at,
-            pairs: mine,
+            full: Some(at),
+            held: own,
         };
     }
-    write_mod(op, card, at, to, left, root, inner, out, work, mine)
+    write_mod(&inner, at, to, left, out, work, own.pairs)
 }
 
 // A Mod whose table the words hold: what stands ahead of its body, and the body, in the part of out behind that. Its length is written once they are.
 #[cycle(write_body_write_declaration_write_declarations_write_inner_write_mod_write_module_write_saved)]
 fn write_mod(
-    op: Shortening,
-    card: &[u8],
+    scope: &Scope<'_>,
     at: usize,
     to: usize,
     left: usize,
-    root: &[u8],
-    chain: &[usize],
     out: &mut [u8],
     work: &mut [u32],
     pairs: usize,
 ) -> Piece
-    requires { Within at to card.now chain.now (left - 1) × (0 < left) × (left ≤ 48) }
-    ensures { Wrote out.old out.new work.new result.length result.full result.owner result.pairs
-        (mod_at op card.now root.now left chain.now at to pairs work.old) }
+    requires { Within at to scope.now.card.now scope.now.chain.now (left - 1) × (0 < left) × (left ≤ 48) }
+    ensures { Leaves out.old out.new work.new result
+        (mod_at scope.now.op scope.now.card.now scope.now.root.now left scope.now.chain.now at to pairs work.old) }
 {
-    let c = reader::content(wire::part(card, at, to - at));
+    let c = reader::content(wire::part(scope.card, at, to - at));
     let body = reader::rest(reader::rest(reader::rest(c)));
     let f = c.len() - body.len();
     laying::lay(wire::part(c, 0, f), out, 6);
     let q = laying::least(f + 6, out.len());
-    let b = write_body(
-        op,
-        card,
-        at,
-        at + 6 + f,
-        to,
-        left,
-        root,
-        chain,
-        &mut out[q..],
-        work,
-        pairs,
-    );
+    let b = write_body(scope, at, at + 6 + f, to, left, &mut out[q..], work, pairs);
     let n = f + b.length;
     heads::lay_head(n + 2, 0x60, out, 0);
     Piece {
         length: n + 6,
         full: b.full,
-        owner: b.owner,
-        pairs: b.pairs,
+        held: b.held,
     }
 }
 
 // A body, from a place to the module's end: its uses, then its declarations, each in the part of out behind what is there.
 #[cycle(write_body_write_declaration_write_declarations_write_inner_write_mod_write_module_write_saved)]
 fn write_body(
-    op: Shortening,
-    card: &[u8],
+    scope: &Scope<'_>,
     at: usize,
     from: usize,
     to: usize,
     left: usize,
-    root: &[u8],
-    chain: &[usize],
     out: &mut [u8],
     work: &mut [u32],
     pairs: usize,
 ) -> Piece
-    requires { Within 0 to card.now chain.now (left - 1) × (0 < left) × (left ≤ 48) × (from ≤ 65542) }
-    ensures { Wrote out.old out.new work.new result.length result.full result.owner result.pairs
-        (body_at op card.now root.now left chain.now at from to pairs work.old) }
+    requires { Within 0 to scope.now.card.now scope.now.chain.now (left - 1) × (0 < left) × (left ≤ 48) × (from ≤ 65542) }
+    ensures { Leaves out.old out.new work.new result
+        (body_at scope.now.op scope.now.card.now scope.now.root.now left scope.now.chain.now at from to pairs work.old) }
 {
     let q = laying::least(6, out.len());
     let k = tables::own_words(work, pairs);
-    let u = importing::write_imports(op, card, root, chain, &work[..k], pairs, &mut out[q..]);
+    let u = importing::write_imports(scope, &work[..k], pairs, &mut out[q..]);
     let p = laying::least(u + 6, out.len());
-    let d = write_declarations(
-        op,
-        card,
-        at,
-        from + 6,
-        to,
-        left,
-        root,
-        chain,
-        &mut out[p..],
-        work,
-        pairs,
-    );
+    let d = write_declarations(scope, at, from + 6, to, left, &mut out[p..], work, pairs);
     let n = u + d.length;
     heads::lay_head(n + 2, 2, out, 0);
     Piece {
         length: n + 6,
         full: d.full,
-        owner: d.owner,
-        pairs: d.pairs,
+        held: d.held,
     }
 }
 
 // The declarations from one place to another.
 #[cycle(write_body_write_declaration_write_declarations_write_inner_write_mod_write_module_write_saved)]
 fn write_declarations(
-    op: Shortening,
-    card: &[u8],
+    scope: &Scope<'_>,
     at: usize,
     from: usize,
     to: usize,
     left: usize,
-    root: &[u8],
-    chain: &[usize],
     out: &mut [u8],
     work: &mut [u32],
     pairs: usize,
 ) -> Piece
-    requires { Within 0 to card.now chain.now (left - 1) × (0 < left) × (left ≤ 48) × (from ≤ 65548) }
-    ensures { Wrote out.old out.new work.new result.length result.full result.owner result.pairs
-        (declarations_at op card.now root.now left chain.now at from to pairs work.old) }
+    requires { Within 0 to scope.now.card.now scope.now.chain.now (left - 1) × (0 < left) × (left ≤ 48) × (from ≤ 65548) }
+    ensures { Leaves out.old out.new work.new result
+        (declarations_at scope.now.op scope.now.card.now scope.now.root.now left scope.now.chain.now at from to pairs work.old) }
 {
     let mut i = from;
     let mut p = 0;
-    let mut full = 0;
-    let mut owner = at;
-    let mut mine = pairs;
+    let mut full = None;
+    let mut held = Held { owner: at, pairs };
     while i < to {
-        let s = wire::part(card, i, to - i);
+        let s = wire::part(scope.card, i, to - i);
         if reader::is_short(s) {
             return Piece {
                 length: p,
-                full: full,
-                owner: owner,
-                pairs: mine,
+                full,
+                held,
             };
         }
         let next = i + 4 + reader::record_length(s);
         let q = laying::least(p, out.len());
-        let d = write_declaration(
-            op,
-            card,
-            at,
-            i,
-            next,
-            left,
-            root,
-            chain,
-            &mut out[q..],
-            work,
-            owner,
-            mine,
-        );
+        let d = write_declaration(scope, at, i, next, left, &mut out[q..], work, held);
         p += d.length;
         full = first_full(full, d.full);
-        owner = d.owner;
-        mine = d.pairs;
+        held = d.held;
         i = next;
     }
     Piece {
         length: p,
-        full: full,
-        owner: owner,
-        pairs: mine,
+        full,
+        held,
     }
 }
 
@@ -274,22 +200,19 @@ fn write_declarations(
 // which may be those of the table of the module at the place: they are put aside, and put back after.
 #[cycle(write_body_write_declaration_write_declarations_write_inner_write_mod_write_module_write_saved)]
 fn write_saved(
-    op: Shortening,
-    card: &[u8],
+    scope: &Scope<'_>,
     at: usize,
     from: usize,
     to: usize,
     left: usize,
-    root: &[u8],
-    chain: &[usize],
     out: &mut [u8],
     work: &mut [u32],
     pairs: usize,
 ) -> Piece
-    requires { Within (from + 6) to card.now chain.now left × (left ≤ 48)
+    requires { Within (from + 6) to scope.now.card.now scope.now.chain.now left × (left ≤ 48)
         × (is_small (table pairs work.old) (to - from) ≡ true) }
-    ensures { Wrote out.old out.new work.new result.length result.full result.owner result.pairs
-        (saved_at op card.now root.now left chain.now at (span from to) pairs work.old) }
+    ensures { Leaves out.old out.new work.new result
+        (saved_at scope.now.op scope.now.card.now scope.now.root.now left scope.now.chain.now at (span from to) pairs work.old) }
 {
     let q = laying::least(6, out.len());
     let n = 4 * ((to - from) / 18);
@@ -297,25 +220,20 @@ fn write_saved(
     let mut aside: [u32; 256] = [0; 256];
     work::copy(&work[k..], &mut aside);
     let m = write_module(
-        op,
-        card,
+        scope,
         from + 6,
         to,
         left,
-        root,
-        chain,
         &mut out[q..],
         &mut work[k..],
-        65537,
-        0,
+        tables::NONE,
     );
     work::copy(&aside[..n], &mut work[k..]);
     heads::lay_head(m.length + 2, 0x62, out, 0);
     Piece {
         length: m.length + 6,
         full: m.full,
-        owner: at,
-        pairs: pairs,
+        held: Held { owner: at, pairs },
     }
 }
 
@@ -323,134 +241,80 @@ fn write_saved(
 // room gets those behind the table: the table stays. Else it has all words.
 #[cycle(write_body_write_declaration_write_declarations_write_inner_write_mod_write_module_write_saved)]
 fn write_inner(
-    op: Shortening,
-    card: &[u8],
+    scope: &Scope<'_>,
     at: usize,
     from: usize,
     to: usize,
     left: usize,
-    root: &[u8],
-    chain: &[usize],
     out: &mut [u8],
     work: &mut [u32],
-    owner: usize,
-    pairs: usize,
+    held: Held,
 ) -> Piece
-    requires { Within (from + 6) to card.now chain.now left × (left ≤ 48) }
-    ensures { Wrote out.old out.new work.new result.length result.full result.owner result.pairs
-        (inner_at op card.now root.now left chain.now at (span from to) owner pairs work.old) }
+    requires { Within (from + 6) to scope.now.card.now scope.now.chain.now left × (left ≤ 48) }
+    ensures { Leaves out.old out.new work.new result
+        (inner_at scope.now.op scope.now.card.now scope.now.root.now left scope.now.chain.now at (span from to) held.owner held.pairs work.old) }
 {
     let q = laying::least(6, out.len());
-    let held = Held {
-        owner: owner,
-        pairs: pairs,
-    };
     if tables::is_small_beside(work, held, at, to - from) {
-        return write_saved(op, card, at, from, to, left, root, chain, out, work, pairs);
+        return write_saved(scope, at, from, to, left, out, work, held.pairs);
     }
     if tables::has_room_beside(work, held, at, to - from) {
-        let k = tables::own_words(work, pairs);
+        let k = tables::own_words(work, held.pairs);
         let b = write_module(
-            op,
-            card,
+            scope,
             from + 6,
             to,
             left,
-            root,
-            chain,
             &mut out[q..],
             &mut work[k..],
-            65537,
-            0,
+            tables::NONE,
         );
         heads::lay_head(b.length + 2, 0x62, out, 0);
         return Piece {
             length: b.length + 6,
             full: b.full,
-            owner: at,
-            pairs: pairs,
+            held: Held {
+                owner: at,
+                pairs: held.pairs,
+            },
         };
     }
-    let m = write_module(
-        op,
-        card,
-        from + 6,
-        to,
-        left,
-        root,
-        chain,
-        &mut out[q..],
-        work,
-        owner,
-        pairs,
-    );
+    let m = write_module(scope, from + 6, to, left, &mut out[q..], work, held);
     heads::lay_head(m.length + 2, 0x62, out, 0);
     Piece {
         length: m.length + 6,
         full: m.full,
-        owner: m.owner,
-        pairs: m.pairs,
+        held: m.held,
     }
 }
 
 // A declaration of the module at a place: one that holds no module needs the module's table.
 #[cycle(write_body_write_declaration_write_declarations_write_inner_write_mod_write_module_write_saved)]
 fn write_declaration(
-    op: Shortening,
-    card: &[u8],
+    scope: &Scope<'_>,
     at: usize,
     from: usize,
     to: usize,
     left: usize,
-    root: &[u8],
-    chain: &[usize],
     out: &mut [u8],
     work: &mut [u32],
-    owner: usize,
-    pairs: usize,
+    held: Held,
 ) -> Piece
-    requires { Within (from + 6) to card.now chain.now (left - 1) × (0 < left) × (left ≤ 48) }
-    ensures { Wrote out.old out.new work.new result.length result.full result.owner result.pairs
-        (declaration_at op card.now root.now left chain.now at (span from to) owner pairs work.old) }
+    requires { Within (from + 6) to scope.now.card.now scope.now.chain.now (left - 1) × (0 < left) × (left ≤ 48) }
+    ensures { Leaves out.old out.new work.new result
+        (declaration_at scope.now.op scope.now.card.now scope.now.root.now left scope.now.chain.now at (span from to) held.owner held.pairs work.old) }
 {
-    let r = wire::part(card, from, to - from);
+    let r = wire::part(scope.card, from, to - from);
     if reader::record_kind(r) == 0x62 {
-        return write_inner(
-            op,
-            card,
-            at,
-            from,
-            to,
-            left - 1,
-            root,
-            chain,
-            out,
-            work,
-            owner,
-            pairs,
-        );
+        return write_inner(scope, at, from, to, left - 1, out, work, held);
     }
-    let held = tables::table_of(
-        op,
-        card,
-        at,
-        left,
-        root,
-        chain,
-        work,
-        Held {
-            owner: owner,
-            pairs: pairs,
-        },
-    );
-    let mine = held.pairs;
-    let k = tables::own_words(work, mine);
-    let n = replacing::replace(op, card, root, chain, &work[..k], r, left, out);
+    let own = tables::table_of(scope, at, left, work, held);
+    let k = tables::own_words(work, own.pairs);
+    let n = replacing::replace(scope, &work[..k], r, left, out);
     Piece {
         length: n,
-        full: 0,
-        owner: at,
-        pairs: mine,
+        full: None,
+        held: own,
     }
 }
 
@@ -461,33 +325,24 @@ pub fn write_card(
     root: &[u8],
     out: &mut [u8],
     work: &mut [u32],
-    owner: usize,
-    pairs: usize,
+    held: Held,
 ) -> Piece
-    ensures { Wrote out.old out.new work.new result.length result.full result.owner result.pairs
-        (card_made op card.now root.now owner (table pairs work.old)) }
+    ensures { Leaves out.old out.new work.new result
+        (card_made op card.now root.now held.owner (table held.pairs work.old)) }
 {
     let n = card.len();
     if 65536 < n {
         return Piece {
             length: 0,
-            full: 0,
-            owner: owner,
-            pairs: pairs,
+            full: None,
+            held,
         };
     }
-    let names: [usize; 1] = [0];
-    write_module(
+    let outermost = Scope {
         op,
         card,
-        0,
-        n,
-        48,
         root,
-        &names[..0],
-        out,
-        work,
-        owner,
-        pairs,
-    )
+        chain: &[],
+    };
+    write_module(&outermost, 0, n, 48, out, work, held)
 }

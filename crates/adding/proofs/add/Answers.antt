@@ -1,5 +1,5 @@
 -- `adding::add` meets its contract, case by case. Assumes nothing.
-use Rattle.prefix.specs.Prefix.{scope}
+use Rattle.prefix.specs.Prefix.{scope_of}
 use Rattle.adding.proofs.Tests.{add-full, add-old, add-past, add-room, add-new}
 use Rattle.adding.proofs.add.Goals as goal
 
@@ -8,7 +8,7 @@ returns-then-most-n c =
     let args = c.args in
     let room = c.room-most in
     let if1 = c.if-most-n in
-    add-full (scope args.op args.card.now args.root.now args.chain.now) args.work.now args.n args.at args.len args.base _
+    add-full (scope_of args.scope.now) args.work.now args.n args.at args.len args.base _
     room.ensures if1.true
 
 pub returns-then-seek-gt0 : goal.returns-then-seek-gt0
@@ -18,14 +18,14 @@ returns-then-seek-gt0 c =
     let if1 = c.if-most-n in
     let word = c.word-place in
     let word2 = c.word in
-    let part = c.part-name in
+    let part = c.part-bytes in
     let number = c.number-number in
     let bucket = c.bucket-b in
     let base-word = c.base_word-w in
     let head = c.head-first in
     let seek = c.seek in
     let if2 = c.if-seek-gt0 in
-    let scoped = scope args.op args.card.now args.root.now args.chain.now in
+    let scoped = scope_of args.scope.now in
     add-old scoped args.work.now args.n args.at args.len args.base _ room.ensures if1.false _ _ word.ensures.0 word2.ensures.0 _ part.ensures _ _ _ _ _ number.ensures.0 bucket.ensures base-word.ensures.0 head.ensures.0
     seek.ensures if2.true
 
@@ -36,7 +36,7 @@ returns-then-n-most c =
     let if1 = c.if-most-n in
     let word = c.word-place in
     let word2 = c.word in
-    let part = c.part-name in
+    let part = c.part-bytes in
     let number = c.number-number in
     let bucket = c.bucket-b in
     let base-word = c.base_word-w in
@@ -44,7 +44,7 @@ returns-then-n-most c =
     let seek = c.seek in
     let if2 = c.if-seek-gt0 in
     let if3 = c.if-n-most in
-    let scoped = scope args.op args.card.now args.root.now args.chain.now in
+    let scoped = scope_of args.scope.now in
     add-past scoped args.work.now args.n args.at args.len args.base _ room.ensures if1.false _ _ word.ensures.0 word2.ensures.0 _ part.ensures _ _ _ _ _ number.ensures.0 bucket.ensures base-word.ensures.0 head.ensures.0
     seek.ensures if2.false if3.true
 
@@ -55,7 +55,7 @@ put-requires c =
     let if1 = c.if-most-n in
     let word = c.word-place in
     let word2 = c.word in
-    let part = c.part-name in
+    let part = c.part-bytes in
     let number = c.number-number in
     let bucket = c.bucket-b in
     let base-word = c.base_word-w in
@@ -63,7 +63,7 @@ put-requires c =
     let seek = c.seek in
     let if2 = c.if-seek-gt0 in
     let if3 = c.if-n-most in
-    let scoped = scope args.op args.card.now args.root.now args.chain.now in
+    let scoped = scope_of args.scope.now in
     add-room scoped args.work.now args.n args.at args.len args.base _ room.ensures if1.false _ _ word.ensures.0 word2.ensures.0 _ part.ensures _ _ _ _ _ number.ensures.0 bucket.ensures base-word.ensures.0 head.ensures.0
     seek.ensures if2.false if3.false
 
@@ -74,7 +74,7 @@ returns c =
     let if1 = c.if-most-n in
     let word = c.word-place in
     let word2 = c.word in
-    let part = c.part-name in
+    let part = c.part-bytes in
     let number = c.number-number in
     let bucket = c.bucket-b in
     let base-word = c.base_word-w in
@@ -83,6 +83,6 @@ returns c =
     let if2 = c.if-seek-gt0 in
     let if3 = c.if-n-most in
     let put = c.put in
-    let scoped = scope args.op args.card.now args.root.now args.chain.now in
+    let scoped = scope_of args.scope.now in
     add-new scoped args.work.now args.n args.at args.len args.base _ room.ensures if1.false _ _ word.ensures.0 word2.ensures.0 _ part.ensures _ _ _ _ _ number.ensures.0 bucket.ensures base-word.ensures.0 head.ensures.0
     seek.ensures if2.false if3.false _ put.ensures

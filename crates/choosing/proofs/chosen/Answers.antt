@@ -1,5 +1,5 @@
 -- `choosing::chosen` meets its contract. Assumes nothing.
-use Rattle.prefix.specs.Prefix.{scope}
+use Rattle.prefix.specs.Prefix.{scope_of}
 use Rattle.choosing.proofs.Tests.{chosen_none, chosen-only, chosen-several}
 use Rattle.choosing.proofs.chosen.Goals as goal
 
@@ -10,8 +10,8 @@ returns-then-one-eq0 c =
     let head = c.head-first in
     let seek = c.seek-one in
     let if1 = c.if-one-eq0 in
-    let scoped = scope args.op args.card.now args.root.now args.chain.now in
-    chosen_none scoped args.work.now _ args.number _ _ _ bucket.ensures head.ensures.0 seek.ensures if1.true
+    let scoped = scope_of args.scope.now in
+    chosen_none scoped args.work.now _ args.name.now.number _ _ _ bucket.ensures head.ensures.0 seek.ensures if1.true
 
 pub returns-then-two-eq0 : goal.returns-then-two-eq0
 returns-then-two-eq0 c =
@@ -23,8 +23,8 @@ returns-then-two-eq0 c =
     let next = c.next-after in
     let seek2 = c.seek-two in
     let if2 = c.if-two-eq0 in
-    let scoped = scope args.op args.card.now args.root.now args.chain.now in
-    chosen-only scoped args.work.now _ args.number _ _ _ bucket.ensures head.ensures.0 seek.ensures if1.false _
+    let scoped = scope_of args.scope.now in
+    chosen-only scoped args.work.now _ args.name.now.number _ _ _ bucket.ensures head.ensures.0 seek.ensures if1.false _
     _ next.ensures seek2.ensures if2.true
 
 pub returns : goal.returns
@@ -38,6 +38,6 @@ returns c =
     let seek2 = c.seek-two in
     let if2 = c.if-two-eq0 in
     let chosen-of-several = c.chosen_of_several in
-    let scoped = scope args.op args.card.now args.root.now args.chain.now in
-    chosen-several scoped args.work.now _ args.number _ _ _ bucket.ensures head.ensures.0 seek.ensures if1.false
+    let scoped = scope_of args.scope.now in
+    chosen-several scoped args.work.now _ args.name.now.number _ _ _ bucket.ensures head.ensures.0 seek.ensures if1.false
     _ _ next.ensures seek2.ensures if2.false _ chosen-of-several.ensures

@@ -1,5 +1,5 @@
 -- `choosing::chosen_of_several` meets its contract. Assumes nothing.
-use Rattle.prefix.specs.Prefix.{scope}
+use Rattle.prefix.specs.Prefix.{scope_of}
 use Rattle.choosing.proofs.Tests.{several-prefix, several-runtime}
 use Rattle.choosing.proofs.chosen_of_several.Goals as goal
 
@@ -8,7 +8,7 @@ returns-then-p-gt0 c =
     let args = c.args in
     let seek = c.seek-p in
     let if1 = c.if-p-gt0 in
-    several-prefix (scope args.op args.card.now args.root.now args.chain.now) args.work.now _ args.number _ _ seek.ensures
+    several-prefix (scope_of args.scope.now) args.work.now _ args.name.now.number _ _ seek.ensures
     if1.true
 
 pub returns : goal.returns
@@ -17,5 +17,5 @@ returns c =
     let seek = c.seek-p in
     let if1 = c.if-p-gt0 in
     let seek2 = c.seek in
-    several-runtime (scope args.op args.card.now args.root.now args.chain.now) args.work.now _ args.number _ _ seek.ensures
+    several-runtime (scope_of args.scope.now) args.work.now _ args.name.now.number _ _ seek.ensures
     if1.false _ seek2.ensures

@@ -3,7 +3,7 @@ use mathlib.Core.Path.{refl, sym, ◌∙◌}
 use Prim.Native.Nat.{◌-◌}
 use native.Mathlib.Omega.{arith}
 use Rattle.wire.proofs.Less.{at_least_one}
-use Rattle.prefix.specs.Prefix.{scope}
+use Rattle.prefix.specs.Prefix.{scope_of}
 use Rattle.adding.specs.Adds.{table}
 use Rattle.collecting.proofs.Going.{going_start, going_done, going-short, going-deep, going-six, going-to, going-passed}
 use Rattle.collecting.proofs.Going.{going-whole, going-parts, going-in}
@@ -18,13 +18,13 @@ collect_decl-returns t c =
     let args = c.args in
     let add-name = c.add_name-m in
     let collect-parts = c.collect_parts in
-    decl-both (scope args.op args.card.now args.root.now args.chain.now) (table args.n args.work.now) args.from args.to args.k
+    decl-both (scope_of args.scope.now) (table args.n args.work.now) args.from args.to args.k
     args.left _ c.requires.3 _ add-name.ensures collect-parts.ensures
 
 pub collect_parts-loop-at-init : goal.collect_parts-loop-at-init
 collect_parts-loop-at-init t c =
     let args = c.args in (
-      going_start (scope args.op args.card.now args.root.now args.chain.now) (table args.n args.work.now) args.from args.to args.k
+      going_start (scope_of args.scope.now) (table args.n args.work.now) args.from args.to args.k
           args.left c.requires.0,
       refl,
     )
@@ -144,7 +144,7 @@ collect_parts-loop-at-preserved-then-j-eq45 t c =
     let if4 = c.if-j-eq45 in
     let add-path = c.add_path-m in (
       going-whole loop.invariant.0 refl is-short.ensures if1.false record-length.ensures record-kind.ensures is-passed.ensures if3.false
-          if2.false (type-path (scope args.op args.card.now args.root.now args.chain.now) _ _ _ _ _ _ if4.true add-path.ensures),
+          if2.false (type-path (scope_of args.scope.now) _ _ _ _ _ _ if4.true add-path.ensures),
       omega (arith, loop.invariant.1),
     )
 
@@ -178,7 +178,7 @@ collect_parts-loop-at-preserved-then-j-eq92 t c =
     let if5 = c.if-j-eq92 in
     let add-path2 = c.add_path-m-then-j-eq92 in (
       going-whole loop.invariant.0 refl is-short.ensures if1.false record-length.ensures record-kind.ensures is-passed.ensures if3.false
-          if2.false (expr-path (scope args.op args.card.now args.root.now args.chain.now) _ _ _ _ _ _ if5.true add-path2.ensures),
+          if2.false (expr-path (scope_of args.scope.now) _ _ _ _ _ _ if5.true add-path2.ensures),
       omega (arith, loop.invariant.1),
     )
 
@@ -269,7 +269,7 @@ collect_parts-loop-at-preserved-then-next-to t c =
     let if6 = c.if-stands in (
       going-in loop.invariant.0 refl is-short.ensures if1.false record-length.ensures record-kind.ensures is-passed.ensures if3.false
           if2.false if7.true
-          (other-whole (scope args.op args.card.now args.root.now args.chain.now) _ _ _ _ _ if4.false if5.false
+          (other-whole (scope_of args.scope.now) _ _ _ _ _ if4.false if5.false
           (sym stands.ensures ∙ if6.false)),
       omega (arith, loop.invariant.1),
     )
@@ -328,7 +328,7 @@ collect_parts-loop-at-preserved t c =
     let if6 = c.if-stands in (
       going-parts loop.invariant.0 refl is-short.ensures if1.false record-length.ensures record-kind.ensures is-passed.ensures if3.false
           if2.false
-          (other-whole (scope args.op args.card.now args.root.now args.chain.now) _ _ _ _ _ if4.false if5.false
+          (other-whole (scope_of args.scope.now) _ _ _ _ _ if4.false if5.false
           (sym stands.ensures ∙ if6.false))
           collect-parts.ensures,
       omega (arith, loop.invariant.1),

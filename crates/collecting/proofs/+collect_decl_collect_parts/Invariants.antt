@@ -2,7 +2,7 @@
 use mathlib.Core.Path.{◌≡◌}
 use Prim.Native.Nat.{◌*◌, ◌+◌, ◌-◌}
 use lib.ListN.{length}
-use Rattle.prefix.specs.Prefix.{scope}
+use Rattle.prefix.specs.Prefix.{scope_of}
 use Rattle.adding.specs.Adds.{table}
 use Rattle.gathering.specs.Gathers.{parts_added}
 use Rattle.collecting.proofs.Going.{Going}
@@ -16,7 +16,7 @@ decreases-collect_parts l = 2 * l.left
 
 abbrev pub invariant-collect_parts-loop-at : goal.invariant-collect_parts-loop-at
 invariant-collect_parts-loop-at l =
-    Going (scope l.op l.card l.root l.chain) (parts_added (scope l.op l.card l.root l.chain) l.left l.k (table l.n l.initial.work) l.from l.to) l.to l.left (table l.m l.work) l.at l.of l.i l.deep
+    Going (scope_of l.scope) (parts_added (scope_of l.scope) l.left l.k (table l.n l.initial.work) l.from l.to) l.to l.left (table l.m l.work) l.at l.of l.i l.deep
     × (length l.work ≡ length l.initial.work)
 
 abbrev pub decreases-collect_parts-loop-at : goal.decreases-collect_parts-loop-at

@@ -3,56 +3,35 @@ use native.Mathlib.Omega.{arith}
 use Rattle.fields.proofs.Declared.{name-trait, name-fn, name-low, name-high, name-third, name-extern, name-mod}
 use Rattle.fields.proofs.name_at.Goals as goal
 
-pub returns-then-k-eq104 : goal.returns-then-k-eq104
-returns-then-k-eq104 c =
-    name-trait c.args.s.now _ c.args.k
-    c.part-it.ensures _ _ c.if-k-eq104.true c.offset_of.ensures c.trait_name_at.ensures
-
-pub returns-then-k-eq105 : goal.returns-then-k-eq105
-returns-then-k-eq105 c = (
-  name-fn c.args.s.now _ c.args.k
-      c.part-it.ensures _ c.if-k-eq105.true c.offset_of-then-k-eq105.ensures,
-  omega (arith, c.offset_of-then-k-eq105.ensures.1),
-)
-
-pub returns-then-k-lt98 : goal.returns-then-k-lt98
-returns-then-k-lt98 c = (
-  name-low c.args.s.now _ c.args.k
-      c.part-it.ensures c.if-k-eq104.false c.if-k-eq105.false c.if-k-lt98.true,
+pub returns-then-module-eq97 : goal.returns-then-module-eq97
+returns-then-module-eq97 c = (
+  name-extern _ _ _ c.part-it.ensures c.in-98.is _ c.record_kind-module.ensures c.if-module-eq97.true,
   omega arith,
 )
 
-pub returns-then-k-gt102 : goal.returns-then-k-gt102
-returns-then-k-gt102 c = (
-  name-high c.args.s.now _ c.args.k
-      c.part-it.ensures c.if-k-eq104.false c.if-k-eq105.false c.if-k-gt102.true,
-  omega arith,
+pub returns-else-module-eq97 : goal.returns-else-module-eq97
+returns-else-module-eq97 c = (
+  name-mod _ _ _ c.part-it.ensures c.in-98.is _ c.record_kind-module.ensures _ c.if-module-eq97.false c.offset_of.ensures,
+  omega (arith, c.offset_of.ensures.1),
 )
 
-pub returns-then-k-gt98 : goal.returns-then-k-gt98
-returns-then-k-gt98 c = (
-  name-third c.args.s.now _
-      c.args.k c.part-it.ensures
-      c.if-k-eq104.false c.if-k-eq105.false _ (omega (arith, c.if-k-gt102.false))
-      c.if-k-gt98.true c.offset_of-then-k-gt98.ensures,
-  omega (arith, c.offset_of-then-k-gt98.ensures.1),
+pub returns-in-104 : goal.returns-in-104
+returns-in-104 c = name-trait _ _ _ c.part-it.ensures _ _ c.in-104.is c.offset_of-in-104.ensures c.trait_name_at.ensures
+
+pub returns-in-105 : goal.returns-in-105
+returns-in-105 c = (
+  name-fn _ _ _ c.part-it.ensures _ c.in-105.is c.offset_of-in-105.ensures,
+  omega (arith, c.offset_of-in-105.ensures.1),
 )
 
-pub returns-then-record_kind-eq97 : goal.returns-then-record_kind-eq97
-returns-then-record_kind-eq97 c = (
-  name-extern c.args.s.now _
-      c.args.k
-      c.part-it.ensures (omega (arith, c.if-k-lt98.false))
-      (omega (arith, c.if-k-gt98.false)) _ c.record_kind.ensures c.if-record_kind-eq97.true,
-  omega arith,
+pub returns-in-99-to-102 : goal.returns-in-99-to-102
+returns-in-99-to-102 c = (
+  name-third _ _ _ c.part-it.ensures _ (omega arith) (omega arith) c.offset_of-in-99-to-102.ensures,
+  omega (arith, c.offset_of-in-99-to-102.ensures.1),
 )
 
-pub returns : goal.returns
-returns c = (
-  name-mod c.args.s.now _
-      c.args.k
-      c.part-it.ensures (omega (arith, c.if-k-lt98.false))
-      (omega (arith, c.if-k-gt98.false)) _ c.record_kind.ensures _ c.if-record_kind-eq97.false c.offset_of-2.ensures,
-  omega
-      (arith, c.offset_of-2.ensures.1),
-)
+pub returns-in_default : goal.returns-in_default
+returns-in_default c = (name-low c.args.s.now _ c.args.k c.part-it.ensures (omega arith), omega arith)
+
+pub returns-in_default-2 : goal.returns-in_default-2
+returns-in_default-2 c = (name-high c.args.s.now _ c.args.k c.part-it.ensures (omega arith) (λ e. absurd (omega arith)) (λ e. absurd (omega arith)), omega arith)

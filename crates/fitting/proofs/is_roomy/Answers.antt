@@ -2,7 +2,7 @@
 use mathlib.Core.Path.{sym}
 use native.Mathlib.Omega.{arith}
 use lib.Seq.{length-take-le}
-use Rattle.prefix.specs.Prefix.{scope}
+use Rattle.prefix.specs.Prefix.{scope_of}
 use Rattle.fitting.proofs.Tests.{roomy-full, roomy-card, roomy-grown, roomy-uses, roomy-is, own_room}
 use Rattle.fitting.proofs.is_roomy.Goals as goal
 
@@ -11,16 +11,16 @@ returns-then-most-pairs c =
     let args = c.args in
     let room = c.room-most in
     let if1 = c.if-most-pairs in
-    roomy-full (scope args.op args.card.now args.root.now args.chain.now) args.lent args.grown args.pairs args.work.now _ room.ensures
+    roomy-full (scope_of args.scope.now) args.lent args.grown args.pairs args.work.now _ room.ensures
     if1.true
 
-pub returns-then-lent-card : goal.returns-then-lent-card
-returns-then-lent-card c =
+pub returns-then-lent-scope : goal.returns-then-lent-scope
+returns-then-lent-scope c =
     let args = c.args in
     let room = c.room-most in
     let if1 = c.if-most-pairs in
-    let if2 = c.if-lent-card in
-    roomy-card (scope args.op args.card.now args.root.now args.chain.now) args.lent args.grown args.pairs args.work.now room.ensures
+    let if2 = c.if-lent-scope in
+    roomy-card (scope_of args.scope.now) args.lent args.grown args.pairs args.work.now room.ensures
     if1.false if2.true
 
 pub returns-then-over-grown : goal.returns-then-over-grown
@@ -28,9 +28,9 @@ returns-then-over-grown c =
     let args = c.args in
     let room = c.room-most in
     let if1 = c.if-most-pairs in
-    let if2 = c.if-lent-card in
+    let if2 = c.if-lent-scope in
     let if3 = c.if-over-grown in
-    roomy-grown (scope args.op args.card.now args.root.now args.chain.now) args.lent args.grown args.pairs args.work.now room.ensures
+    roomy-grown (scope_of args.scope.now) args.lent args.grown args.pairs args.work.now room.ensures
     if1.false if2.false if3.true
 
 pub slice_bounds-uses_most-end : goal.slice_bounds-uses_most-end
@@ -51,12 +51,12 @@ returns-then-over-grown-2 c =
     let args = c.args in
     let room = c.room-most in
     let if1 = c.if-most-pairs in
-    let if2 = c.if-lent-card in
+    let if2 = c.if-lent-scope in
     let if3 = c.if-over-grown in
     let own-words = c.own_words-k in
     let uses-most = c.uses_most in
     let if4 = c.if-over-grown-2 in
-    roomy-uses (scope args.op args.card.now args.root.now args.chain.now) args.lent args.grown args.pairs args.work.now room.ensures
+    roomy-uses (scope_of args.scope.now) args.lent args.grown args.pairs args.work.now room.ensures
     if1.false if2.false if3.false own-words.ensures uses-most.ensures if4.true
 
 pub returns : goal.returns
@@ -64,11 +64,11 @@ returns c =
     let args = c.args in
     let room = c.room-most in
     let if1 = c.if-most-pairs in
-    let if2 = c.if-lent-card in
+    let if2 = c.if-lent-scope in
     let if3 = c.if-over-grown in
     let own-words = c.own_words-k in
     let uses-most = c.uses_most in
     let if4 = c.if-over-grown-2 in
     let has-few = c.has_few in
-    roomy-is (scope args.op args.card.now args.root.now args.chain.now) args.lent args.grown args.pairs args.work.now room.ensures
+    roomy-is (scope_of args.scope.now) args.lent args.grown args.pairs args.work.now room.ensures
     if1.false if2.false if3.false own-words.ensures uses-most.ensures if4.false has-few.ensures

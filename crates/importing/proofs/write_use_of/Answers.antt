@@ -1,7 +1,7 @@
 -- `importing::write_use_of` meets its contract. A pair that brings a use, and the one that is chosen, are pairs that there is room for. Assumes nothing.
 use native.Mathlib.Omega.{arith}
 use Rattle.operation.proofs.Weights.{weight-small}
-use Rattle.prefix.specs.Prefix.{scope}
+use Rattle.prefix.specs.Prefix.{scope_of}
 use Rattle.importing.proofs.Uses.{one_none, one-room, one-fits, one_end, one-use}
 use Rattle.importing.proofs.write_use_of.Goals as goal
 
@@ -10,7 +10,7 @@ returns-then-c-eq0 c =
     let args = c.args in
     let use-of = c.use_of-c in
     let if1 = c.if-c-eq0 in
-    one_none (scope args.op args.card.now args.root.now args.chain.now) args.work.now
+    one_none (scope_of args.scope.now) args.work.now
     args.i _ use-of.ensures _ args.out.now args.at if1.true
 
 pub overflow_mul-m : goal.overflow_mul-m
@@ -18,7 +18,7 @@ overflow_mul-m c =
     let args = c.args in
     let use-of = c.use_of-c in
     let if1 = c.if-c-eq0 in
-    let i = one-room (scope args.op args.card.now args.root.now args.chain.now) args.work.now args.i _ use-of.ensures if1.false in
+    let i = one-room (scope_of args.scope.now) args.work.now args.i _ use-of.ensures if1.false in
     omega arith
 
 pub overflow_add-m : goal.overflow_add-m
@@ -26,7 +26,7 @@ overflow_add-m c =
     let args = c.args in
     let use-of = c.use_of-c in
     let if1 = c.if-c-eq0 in
-    let i = one-room (scope args.op args.card.now args.root.now args.chain.now) args.work.now args.i _ use-of.ensures if1.false in
+    let i = one-room (scope_of args.scope.now) args.work.now args.i _ use-of.ensures if1.false in
     omega arith
 
 pub bounds-work-k : goal.bounds-work-k
@@ -34,7 +34,7 @@ bounds-work-k c =
     let args = c.args in
     let use-of = c.use_of-c in
     let if1 = c.if-c-eq0 in
-    let i = one-room (scope args.op args.card.now args.root.now args.chain.now) args.work.now args.i _ use-of.ensures if1.false in
+    let i = one-room (scope_of args.scope.now) args.work.now args.i _ use-of.ensures if1.false in
     omega arith
 
 pub bounds-work-k-2 : goal.bounds-work-k-2
@@ -42,7 +42,7 @@ bounds-work-k-2 c =
     let args = c.args in
     let use-of = c.use_of-c in
     let if1 = c.if-c-eq0 in
-    let i = one-room (scope args.op args.card.now args.root.now args.chain.now) args.work.now args.i _ use-of.ensures if1.false in
+    let i = one-room (scope_of args.scope.now) args.work.now args.i _ use-of.ensures if1.false in
     omega arith
 
 pub offset_bounds-work-m : goal.offset_bounds-work-m
@@ -50,7 +50,7 @@ offset_bounds-work-m c =
     let args = c.args in
     let use-of = c.use_of-c in
     let if1 = c.if-c-eq0 in
-    let i = one-room (scope args.op args.card.now args.root.now args.chain.now) args.work.now args.i _ use-of.ensures if1.false in
+    let i = one-room (scope_of args.scope.now) args.work.now args.i _ use-of.ensures if1.false in
     omega arith
 
 pub bounds-work-m : goal.bounds-work-m
@@ -58,7 +58,7 @@ bounds-work-m c =
     let args = c.args in
     let use-of = c.use_of-c in
     let if1 = c.if-c-eq0 in
-    let i = one-room (scope args.op args.card.now args.root.now args.chain.now) args.work.now args.i _ use-of.ensures if1.false in
+    let i = one-room (scope_of args.scope.now) args.work.now args.i _ use-of.ensures if1.false in
     omega arith
 
 pub write_use-end-requires : goal.write_use-end-requires
@@ -72,7 +72,7 @@ write_use-end-requires c =
     let word3 = c.word-3 in
     let record-at = c.record_at-base in
     let pre = c.requires in
-    let fits = one-fits (scope args.op args.card.now args.root.now args.chain.now) args.work.now
+    let fits = one-fits (scope_of args.scope.now) args.work.now
     args.i _ use-of.ensures if1.false _ _ _ _ _
     word.ensures.0 word2.ensures.0 part.ensures word3.ensures.0 record-at.ensures pre.0 in
     (fits.0, fits.1, pre.2)
@@ -90,10 +90,10 @@ overflow_add-result c =
     let record-at = c.record_at-base in
     let write-use = c.write_use-end in
     let weight = c.weight-weight in
-    let end = one_end (scope args.op args.card.now args.root.now args.chain.now) args.work.now
+    let end = one_end (scope_of args.scope.now) args.work.now
     args.i _ use-of.ensures if1.false _ _ _ _ _
     word.ensures.0 word2.ensures.0 part.ensures word3.ensures.0 record-at.ensures _ _ _ _ write-use.ensures pre.0 pre.2 in
-    omega (arith, end, weight.ensures, weight-small args.op)
+    omega (arith, end, weight.ensures, weight-small args.scope.now.op)
 
 pub returns : goal.returns
 returns c =
@@ -108,6 +108,6 @@ returns c =
     let write-use = c.write_use-end in
     let weight = c.weight-weight in
     let lay-zeros = c.lay_zeros in
-    one-use (scope args.op args.card.now args.root.now args.chain.now) args.work.now args.i _ use-of.ensures if1.false _ _ _ _ _
+    one-use (scope_of args.scope.now) args.work.now args.i _ use-of.ensures if1.false _ _ _ _ _
     word.ensures.0 word2.ensures.0 part.ensures word3.ensures.0 record-at.ensures _ _ _ _ write-use.ensures _ weight.ensures _
     lay-zeros.ensures

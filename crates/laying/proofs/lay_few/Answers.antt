@@ -1,5 +1,4 @@
 -- `laying::lay_few` meets its contract: byte by byte, by the laws of Loop. Assumes nothing.
-use Prim.Native.Nat.{◌-◌}
 use native.Mathlib.Omega.{arith}
 use Rattle.laying.proofs.Loop.{laying-none, laying-long, laying-read, laying-write, laying-next, laying-all}
 use Rattle.laying.proofs.lay_few.Goals as goal

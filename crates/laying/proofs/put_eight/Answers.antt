@@ -1,39 +1,11 @@
--- `laying::put_eight` meets its contract: eight loads, then eight stores, one after the other. Assumes nothing.
+-- `laying::put_eight` meets its contract, by a law of laying. Assumes nothing.
 use mathlib.Core.Path.{ap, ◌∙◌}
-use native.Mathlib.Omega.{arith}
-use native.Mathlib.Numerals.{towards_suc}
-use lib.ListN.{length-set}
+use Rattle.wire.proofs.Slices.{part-whole}
 use Rattle.laying.specs.Lays.{lay}
-use Rattle.laying.proofs.Laws.{lay-sets}
-use Rattle.laying.proofs.Loop.{take-eight}
+use Rattle.laying.proofs.Laws.{lay-mid}
 use Rattle.laying.proofs.put_eight.Goals as goal
-
-pub bounds-out-at-2 : goal.bounds-out-at-2
-bounds-out-at-2 c = simp length-set (omega arith)
-
-pub bounds-out-at-3 : goal.bounds-out-at-3
-bounds-out-at-3 c = simp length-set (omega arith)
-
-pub bounds-out-at-4 : goal.bounds-out-at-4
-bounds-out-at-4 c = simp length-set (omega arith)
-
-pub bounds-out-at-5 : goal.bounds-out-at-5
-bounds-out-at-5 c = simp length-set (omega arith)
-
-pub bounds-out-at-6 : goal.bounds-out-at-6
-bounds-out-at-6 c = simp length-set (omega arith)
-
-pub bounds-out-at-7 : goal.bounds-out-at-7
-bounds-out-at-7 c = simp length-set (omega arith)
-
-pub bounds-out-at-8 : goal.bounds-out-at-8
-bounds-out-at-8 c = simp length-set (omega arith)
-
-pub shape_of-out : goal.shape_of-out
-shape_of-out c = simp length-set
 
 pub returns : goal.returns
 returns c =
-    let args = c.args in
-    simp towards_suc (lay-sets args.out.now args.at _ c.requires.1)
-    ∙ ap (lay args.out.now args.at) (take-eight args.src.now args.from c.requires.0)
+    lay-mid _ _ 8 _ c.requires.1 c.copy_from_slice-2.ensures.len
+    ∙ ap (lay c.args.out.now c.args.at) (c.copy_from_slice-2.ensures.after ∙ c.copy_from_slice.ensures.after ∙ part-whole c.args.src.now c.args.from 8)

@@ -1,6 +1,6 @@
 -- The ring of `listing` meets its contracts: the laws of Beside and Ring at each member. Assumes nothing.
 use mathlib.Core.Path.{sym, ap, ◌∙◌}
-use Prim.Native.Nat.{◌-◌, ◌≤◌}
+use Prim.Native.Nat.{◌≤◌}
 use native.Mathlib.Omega.{arith}
 use lib.ListN.{length}
 use Rattle.wire.proofs.Slices.{tail-length}

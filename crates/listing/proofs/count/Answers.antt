@@ -1,6 +1,5 @@
 -- `listing::count` meets its contract: record by record, by the laws of Passed. Assumes nothing.
 use mathlib.Core.Path.{sym, ◌∙◌}
-use Prim.Native.Nat.{◌-◌}
 use native.Mathlib.Omega.{arith}
 use Rattle.listing.proofs.Passed.{Next, next, none-next, end-next, passed_none, passed-all, passed-next}
 use Rattle.listing.proofs.count.Goals as goal

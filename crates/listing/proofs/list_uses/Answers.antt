@@ -1,6 +1,5 @@
 -- `listing::list_uses` meets its contract: use by use, by the laws of Uses. Assumes nothing.
 use mathlib.Core.Path.{refl}
-use Prim.Native.Nat.{◌-◌}
 use native.Mathlib.Omega.{arith}
 use Rattle.listing.proofs.Passed.{next}
 use Rattle.listing.proofs.Uses.{uses-none, uses-long, uses-more, uses-next, uses-all}
@@ -25,7 +24,7 @@ pub put-requires : goal.put-requires
 put-requires c =
     let pre = c.requires in
     let inv = c.loop-j.invariant in
-    let here = next c.args.d.now c.loop-j.i (uses-more _ _ _ _ _ _ _ _ c.loop-j.invariant c.requires.2 c.loop-j-test.true) _ refl in
+    let here = next c.args.d.now c.loop-j.i (uses-more _ _ _ _ _ _ _ _ c.loop-j.invariant c.requires.2 (omega arith)) _ refl in
     (omega (arith, pre.0, here.inside), omega (arith, pre.1, inv.passed.few, inv.passed.inside))
 
 pub slice_bounds-record_length-count : goal.slice_bounds-record_length-count
@@ -33,17 +32,17 @@ slice_bounds-record_length-count c = c.loop-j.invariant.passed.inside
 
 pub overflow_add-i-in-loop-j : goal.overflow_add-i-in-loop-j
 overflow_add-i-in-loop-j c =
-    let here = next c.args.d.now c.loop-j.i (uses-more _ _ _ _ _ _ _ _ c.loop-j.invariant c.requires.2 c.loop-j-test.true) _ c.record_length.ensures.0 in
+    let here = next c.args.d.now c.loop-j.i (uses-more _ _ _ _ _ _ _ _ c.loop-j.invariant c.requires.2 (omega arith)) _ c.record_length.ensures.0 in
     omega (arith, here.inside)
 
 pub loop-j-preserved : goal.loop-j-preserved
 loop-j-preserved c =
-    let here = next c.args.d.now c.loop-j.i (uses-more _ _ _ _ _ _ _ _ c.loop-j.invariant c.requires.2 c.loop-j-test.true) _ c.record_length.ensures.0 in
-    uses-next _ _ _ _ _ _ _ _ c.loop-j.invariant c.loop-j-test.true _ here _
+    let here = next c.args.d.now c.loop-j.i (uses-more _ _ _ _ _ _ _ _ c.loop-j.invariant c.requires.2 (omega arith)) _ c.record_length.ensures.0 in
+    uses-next _ _ _ _ _ _ _ _ c.loop-j.invariant (omega arith) _ here _
     c.put.ensures
 
 pub shape_of-list : goal.shape_of-list
 shape_of-list c = uses-long _ _ _ _ _ _ _ _ c.loop-j.invariant
 
 pub returns : goal.returns
-returns c = uses-all _ _ _ _ _ _ _ _ c.loop-j.invariant (omega (arith, c.loop-j-test.false))
+returns c = uses-all _ _ _ _ _ _ _ _ c.loop-j.invariant (omega arith)

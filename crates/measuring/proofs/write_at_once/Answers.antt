@@ -1,5 +1,7 @@
 -- `measuring::write_at_once` meets its contract. Assumes nothing.
 use native.Mathlib.Omega.{arith}
+use mathlib.Core.Path.{ap}
+use Rattle.writing.specs.Wrote.{place_after}
 use Rattle.adding.specs.Adds.{table}
 use Rattle.measuring.proofs.Tests.{direct-whole, direct-full, direct-gives}
 use Rattle.measuring.proofs.write_at_once.Goals as goal
@@ -10,20 +12,18 @@ returns-then-stays_whole c =
     let stays-whole = c.stays_whole in
     let if1 = c.if-stays_whole in
     let lay = c.lay in
-    direct-whole args.card.now stays-whole.ensures if1.true args.op args.root.now args.owner (table args.pairs args.work.now)
+    direct-whole args.card.now stays-whole.ensures if1.true args.op args.root.now args.held.owner (table args.held.pairs args.work.now)
     args.out.now lay.ensures
 
-pub returns-then-place-gt0 : goal.returns-then-place-gt0
-returns-then-place-gt0 c =
+pub returns-in-Some : goal.returns-in-Some
+returns-in-Some c =
     let args = c.args in
     let write-card = c.write_card-w in
-    let if2 = c.if-place-gt0 in
-    direct-full args.op args.card.now args.root.now args.owner (table args.pairs args.work.now) write-card.ensures if2.true
+    direct-full args.op args.card.now args.root.now args.held.owner (table args.held.pairs args.work.now) write-card.ensures (ap place_after c.in-Some.is)
 
 pub returns : goal.returns
 returns c =
     let args = c.args in
     let write-card = c.write_card-w in
-    let if2 = c.if-place-gt0 in
-    direct-gives args.op args.card.now args.root.now args.owner (table args.pairs args.work.now) write-card.ensures
-    (omega (arith, if2.false))
+    direct-gives args.op args.card.now args.root.now args.held.owner (table args.held.pairs args.work.now) write-card.ensures
+    (ap place_after c.in_default.is)

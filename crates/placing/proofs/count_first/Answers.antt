@@ -1,35 +1,31 @@
 -- `placing::count_first` meets its contract, test by test. Assumes nothing.
-use mathlib.Core.Path.{sym}
+use Rattle.std.proofs.Common.{rules, Err}
+use mathlib.Core.Path.{◌≡◌, refl, sym}
 use native.Mathlib.Omega.{arith}
 use lib.Seq.{length-take-le}
-use Rattle.placing.proofs.Tests.{full-gives, no-room-gives, few-words-gives, written-long, done-gives}
+use Rattle.placing.proofs.Tests.{refused-gives, no-room-gives, few-words-gives, written-long, done-gives}
 use Rattle.placing.proofs.count_first.Goals as goal
 
-pub returns-then-full-gt0 : goal.returns-then-full-gt0
-returns-then-full-gt0 c =
-    let if1 = c.if-full-gt0 in
-    let measure = c.measure-t in
+pub returns-in_err-t : goal.returns-in_err-t
+returns-in_err-t c =
     let args = c.args in
-    full-gives args.pass args.card.now args.root.now args.work.now args.list.now args.out.now measure.ensures if1.true
+    let e : c.from_residual.result ≡ Err c.in_err-t.field-0.0 = search rules in
+    refused-gives args.pass args.card.now args.root.now args.work.now args.list.now args.out.now c.in_err-t.ensures _ e refl
 
 pub returns-then-out-n : goal.returns-then-out-n
 returns-then-out-n c =
     let if2 = c.if-out-n in
-    let if1 = c.if-full-gt0 in
-    let measure = c.measure-t in
     let args = c.args in
-    no-room-gives args.pass args.card.now args.root.now args.work.now args.list.now args.out.now measure.ensures
-    (omega (arith, if1.false)) if2.true
+    no-room-gives args.pass args.card.now args.root.now args.work.now args.list.now args.out.now c.in_ok-t.ensures
+    refl if2.true
 
 pub returns-then-list-k : goal.returns-then-list-k
 returns-then-list-k c =
     let if3 = c.if-list-k in
     let if2 = c.if-out-n in
-    let if1 = c.if-full-gt0 in
-    let measure = c.measure-t in
     let args = c.args in
-    few-words-gives args.pass args.card.now args.root.now args.work.now args.list.now args.out.now measure.ensures
-    (omega (arith, if1.false))
+    few-words-gives args.pass args.card.now args.root.now args.work.now args.list.now args.out.now c.in_ok-t.ensures
+    refl
     (omega (arith, if2.false)) if3.true
 
 pub slice_bounds-list_places-end-2 : goal.slice_bounds-list_places-end-2
@@ -37,12 +33,10 @@ slice_bounds-list_places-end-2 c =
     let plain = c.plain in
     let write-card = c.write_card in
     let if2 = c.if-out-n in
-    let if1 = c.if-full-gt0 in
-    let measure = c.measure-t in
     let args = c.args in
     sym (length-take-le _ _ (let l = written-long args.pass args.card.now args.root.now args.work.now args.list.now args.out.now
-    measure.ensures
-    (omega (arith, if1.false)) (omega (arith, if2.false)) _ plain.ensures write-card.ensures in omega (arith, if2.false, l)))
+    c.in_ok-t.ensures
+    refl (omega (arith, if2.false)) _ plain.ensures write-card.ensures in omega (arith, if2.false, l)))
 
 pub returns : goal.returns
 returns c =
@@ -51,9 +45,7 @@ returns c =
     let write-card = c.write_card in
     let if3 = c.if-list-k in
     let if2 = c.if-out-n in
-    let if1 = c.if-full-gt0 in
-    let measure = c.measure-t in
     let args = c.args in
-    done-gives args.pass args.card.now args.root.now args.work.now args.list.now args.out.now measure.ensures
-    (omega (arith, if1.false))
+    done-gives args.pass args.card.now args.root.now args.work.now args.list.now args.out.now c.in_ok-t.ensures
+    refl
     (omega (arith, if2.false)) _ plain.ensures write-card.ensures (omega (arith, if3.false)) list-places.ensures

@@ -8,8 +8,8 @@ use Rattle.prefix.proofs.is_prefix.Goals as goal
 pub loop-i-init : goal.loop-i-init
 loop-i-init c = left-all _ _ _ _ _
 
-pub bounds-chain-i : goal.bounds-chain-i
-bounds-chain-i c =
+pub bounds-scope-i : goal.bounds-scope-i
+bounds-scope-i c =
     let loop = c.loop-i in
     omega (arith, loop.invariant.counted)
 

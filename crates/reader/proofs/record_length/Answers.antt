@@ -1,9 +1,7 @@
--- `reader::record_length` meets its contract: four bytes, by a law of Front, or what there is of them. Assumes nothing.
+-- `reader::record_length` meets its contract: four bytes, or what there is of them, by a law of Front. Assumes nothing.
 use native.Mathlib.Omega.{arith}
-use Rattle.reader.proofs.Front.{length-is}
+use Rattle.reader.proofs.Front.{length-few}
 use Rattle.reader.proofs.record_length.Goals as goal
 
-pub returns-then-s-ge4 : goal.returns-then-s-ge4
-returns-then-s-ge4 c =
-    length-is c.args.s.now _ _ _ _ (omega (arith, c.if-s-ge4.true)) c.wide.ensures c.wide-then-s-ge4.ensures
-    c.wide-then-s-ge4-2.ensures c.wide-then-s-ge4-3.ensures
+pub returns : goal.returns
+returns c = length-few _ _ (λ i. (c.type_inv.s i).fits) (omega (arith, c.if-s-ge4.false)) c.number.ensures

@@ -6,7 +6,7 @@ use lib.Dec.{lit<}
 use lib.ListN.{take}
 use Rattle.wire.proofs.Slices.{tail-part}
 use Rattle.records.specs.Record.{rest_of}
-use Rattle.prefix.specs.Prefix.{scope}
+use Rattle.prefix.specs.Prefix.{scope_of}
 use Rattle.rewriting.specs.Rewrites.{rewrite}
 use Rattle.replacing.proofs.Along.{along-none, along-long, along-stop, along-end, along-inside, along-room, along-small, along-next}
 use Rattle.replacing.proofs.Empty.{part_bytes, empty-laid}
@@ -23,7 +23,7 @@ replace_expr-returns-then-record_kind-eq92 t c =
     let args = c.args in
     let if1 = c.if-record_kind-eq92 in
     let write-expr = c.write_expr in
-    path-expr-gives (scope args.op args.card.now args.root.now args.chain.now) args.work.now args.again args.w args.r.now
+    path-expr-gives (scope_of args.scope.now) args.work.now args.again args.w args.r.now
     args.left record-kind.result args.at record-kind.ensures.0 args.out.now _ _ c.requires.step if1.true c.requires.room write-expr.ensures
 
 pub replace_expr-deeper-requires : goal.replace_expr-deeper-requires
@@ -36,7 +36,7 @@ replace_expr-replace_kept-requires t c =
     let if1 = c.if-record_kind-eq92 in
     let deeper = c.deeper in (
       omega (arith, c.decreases),
-      expr-asks (scope args.op args.card.now args.root.now args.chain.now) args.work.now args.again args.w
+      expr-asks (scope_of args.scope.now) args.work.now args.again args.w
           args.r.now args.left record-kind.result args.at record-kind.ensures.0 args.out.now 0 args.out.now c.requires.step if1.false _
           deeper.ensures c.requires.room,
     )
@@ -48,7 +48,7 @@ replace_expr-returns t c =
     let if1 = c.if-record_kind-eq92 in
     let deeper = c.deeper in
     let replace-kept = c.replace_kept in
-    expr-gives (scope args.op args.card.now args.root.now args.chain.now) args.work.now args.again args.w args.r.now args.left
+    expr-gives (scope_of args.scope.now) args.work.now args.again args.w args.r.now args.left
     record-kind.result args.at record-kind.ensures.0 args.out.now _ _ c.requires.step if1.false _ deeper.ensures replace-kept.ensures
 
 pub replace_fn-overflow_sub-c : goal.replace_fn-overflow_sub-c
@@ -69,7 +69,7 @@ replace_fn-replace_parts-p-requires t c =
     let rest = c.rest in
     let args = c.args in (
       omega (arith, c.decreases),
-      plain-asks (scope args.op args.card.now args.root.now args.chain.now) args.work.now args.r.now
+      plain-asks (scope_of args.scope.now) args.work.now args.r.now
           content.result.now rest2.result.now part.result.now args.left args.at content.ensures (rest2.ensures ∙ ap rest_of rest.ensures)
           (part.ensures ∙ fn-front content.result.now rest.result.now rest2.result.now rest.ensures rest2.ensures) c.requires.room,
     )
@@ -84,7 +84,7 @@ replace_fn-replace_parts-e-requires t c =
     let replace-parts = c.replace_parts-p in
     let walks-again = c.walks_again in (
       omega (arith, c.decreases),
-      counted-asks (scope args.op args.card.now args.root.now args.chain.now) args.work.now args.r.now
+      counted-asks (scope_of args.scope.now) args.work.now args.r.now
           content.result.now rest2.result.now part.result.now args.left args.at content.ensures (rest2.ensures ∙ ap rest_of rest.ensures)
           (part.ensures ∙ fn-front content.result.now rest.result.now rest2.result.now rest.ensures rest2.ensures) c.requires.room _
           replace-parts.ensures.ends _ walks-again.ensures,
@@ -113,7 +113,7 @@ replace_fn-returns t c =
     let replace-parts = c.replace_parts-p in
     let replace-parts2 = c.replace_parts-e in
     let lay-head = c.lay_head in
-    fn-parts-gives (scope args.op args.card.now args.root.now args.chain.now) args.work.now args.r.now content.result.now
+    fn-parts-gives (scope_of args.scope.now) args.work.now args.r.now content.result.now
     rest2.result.now part.result.now args.left args.at content.ensures (rest2.ensures ∙ ap rest_of rest.ensures)
     (part.ensures ∙ fn-front content.result.now rest.result.now rest2.result.now rest.ensures rest2.ensures) args.out.now _ _ _ _ _ _
     walks-again.ensures c.requires.kind replace-parts.ensures replace-parts2.ensures lay-head.ensures
@@ -126,7 +126,7 @@ replace_kept-replace_parts-e-requires t c =
     let content = c.content in
     let args = c.args in (
       omega (arith, c.decreases),
-      kept-asks (scope args.op args.card.now args.root.now args.chain.now) args.work.now args.again args.w
+      kept-asks (scope_of args.scope.now) args.work.now args.again args.w
           args.r.now content.result.now args.left args.at content.ensures c.requires,
     )
 
@@ -149,14 +149,14 @@ replace_kept-returns t c =
     let record-kind = c.record_kind in
     let replace-parts = c.replace_parts-e in
     let lay-head = c.lay_head in
-    kept_gives (scope args.op args.card.now args.root.now args.chain.now) args.work.now args.again args.w args.r.now
+    kept_gives (scope_of args.scope.now) args.work.now args.again args.w args.r.now
     content.result.now args.left args.at content.ensures args.out.now _ _ _ _ record-kind.ensures.0 replace-parts.ensures
     lay-head.ensures
 
 pub replace_parts-loop-i-init : goal.replace_parts-loop-i-init
 replace_parts-loop-i-init t c =
     let args = c.args in (
-      along-none (rewrite (scope args.op args.card.now args.root.now args.chain.now) args.work.now args.left args.again args.w)
+      along-none (rewrite (scope_of args.scope.now) args.work.now args.left args.again args.w)
           args.c.now args.out.now args.at,
       refl,
     )
@@ -173,8 +173,8 @@ replace_parts-returns-then-is_short t c =
     let part = c.part-s in
     let is-short = c.is_short in
     let if1 = c.if-is_short in
-    parts-gives (scope args.op args.card.now args.root.now args.chain.now) args.work.now args.again args.w args.c.now args.left
-    args.at args.out.now _ _ (along-stop (rewrite (scope args.op args.card.now args.root.now args.chain.now) args.work.now
+    parts-gives (scope_of args.scope.now) args.work.now args.again args.w args.c.now args.left
+    args.at args.out.now _ _ (along-stop (rewrite (scope_of args.scope.now) args.work.now
     args.left args.again args.w) args.c.now args.out.now args.at _ loop.i loop.p loop.invariant.0 _
     (tail-part args.c.now _ loop.i part.ensures) (sym is-short.ensures ∙ if1.true))
 
@@ -191,7 +191,7 @@ replace_parts-overflow_add-p t c =
     let is-short = c.is_short in
     let if1 = c.if-is_short in
     let record-length = c.record_length-n in
-    let scoped = scope args.op args.card.now args.root.now args.chain.now in
+    let scoped = scope_of args.scope.now in
     let f = rewrite scoped args.work.now args.left args.again args.w in
     let rest = tail-part args.c.now _ loop.i part.ensures in
     let long = sym is-short.ensures ∙ if1.false in
@@ -209,7 +209,7 @@ replace_parts-overflow_add-i t c =
     let is-short = c.is_short in
     let if1 = c.if-is_short in
     let record-length = c.record_length-n in
-    let f = rewrite (scope args.op args.card.now args.root.now args.chain.now) args.work.now args.left args.again args.w in
+    let f = rewrite (scope_of args.scope.now) args.work.now args.left args.again args.w in
     let rest = tail-part args.c.now _ loop.i part.ensures in
     let long = sym is-short.ensures ∙ if1.false in
     let size = ap (λ (x : ℕ). 4 + x) record-length.ensures.0 in
@@ -227,7 +227,7 @@ replace_parts-loop-i-smaller-then-n-eq6 t c =
 pub replace_parts-loop-i-preserved-then-n-eq6 : goal.replace_parts-loop-i-preserved-then-n-eq6
 replace_parts-loop-i-preserved-then-n-eq6 t c =
     let args = c.args in
-    let known = c.shared_slice_known-5-1 in
+    let known = c.shared_slice_known-2-1 in
     let loop = c.loop-i in
     let part = c.part-s in
     let is-short = c.is_short in
@@ -236,7 +236,7 @@ replace_parts-loop-i-preserved-then-n-eq6 t c =
     let if2 = c.if-n-eq6 in
     let record-kind = c.record_kind in
     let lay-head = c.lay_head in
-    let scoped = scope args.op args.card.now args.root.now args.chain.now in
+    let scoped = scope_of args.scope.now in
     let f = rewrite scoped args.work.now args.left args.again args.w in
     let rest = tail-part args.c.now _ loop.i part.ensures in
     let long = sym is-short.ensures ∙ if1.false in
@@ -257,11 +257,11 @@ replace_parts-replace_record-p-requires t c =
     let record-length = c.record_length-n in
     let part2 = c.part in (
       omega (arith, c.decreases),
-      parts-asks (scope args.op args.card.now args.root.now args.chain.now) args.work.now args.again args.w
-          args.c.now args.left args.at c.requires _ _ (along-room (rewrite (scope args.op args.card.now args.root.now args.chain.now)
+      parts-asks (scope_of args.scope.now) args.work.now args.again args.w
+          args.c.now args.left args.at c.requires _ _ (along-room (rewrite (scope_of args.scope.now)
           args.work.now args.left args.again args.w) args.c.now args.out.now args.at _ loop.i loop.p loop.invariant.0 _
           (tail-part args.c.now _ loop.i part.ensures) (sym is-short.ensures ∙ if1.false) _ (ap (λ (x : ℕ). 4 + x) record-length.ensures.0) _
-          part2.ensures) (along-small (rewrite (scope args.op args.card.now args.root.now args.chain.now) args.work.now args.left
+          part2.ensures) (along-small (rewrite (scope_of args.scope.now) args.work.now args.left
           args.again args.w) args.c.now args.out.now args.at _ loop.i loop.p loop.invariant.0 _
           (tail-part args.c.now _ loop.i part.ensures) (sym is-short.ensures ∙ if1.false) _ (ap (λ (x : ℕ). 4 + x) record-length.ensures.0) _
           part2.ensures),
@@ -279,7 +279,7 @@ replace_parts-overflow_add-i-in-loop-i t c =
     omega (
       arith,
       c.requires.small,
-      along-inside (rewrite (scope args.op args.card.now args.root.now args.chain.now) args.work.now args.left
+      along-inside (rewrite (scope_of args.scope.now) args.work.now args.left
           args.again args.w) args.c.now args.out.now args.at _ loop.i loop.p loop.invariant.0 _
           (tail-part args.c.now _ loop.i part.ensures) (sym is-short.ensures ∙ if1.false) _ (ap (λ (x : ℕ). 4 + x) record-length.ensures.0) _
           part2.ensures,
@@ -300,15 +300,15 @@ replace_parts-loop-i-preserved t c =
     let record-length = c.record_length-n in
     let part2 = c.part in
     let replace-record = c.replace_record-p in (
-      along-next (rewrite (scope args.op args.card.now args.root.now args.chain.now) args.work.now args.left args.again args.w)
+      along-next (rewrite (scope_of args.scope.now) args.work.now args.left args.again args.w)
           args.c.now args.out.now args.at _ loop.i loop.p loop.invariant.0 _ (tail-part args.c.now _ loop.i part.ensures)
           (sym is-short.ensures ∙ if1.false) _ (ap (λ (x : ℕ). 4 + x) record-length.ensures.0) _ part2.ensures _ _ replace-record.ensures,
       omega (
         arith,
         loop.invariant.1,
-        along-long (rewrite (scope args.op args.card.now args.root.now args.chain.now) args.work.now args.left
+        along-long (rewrite (scope_of args.scope.now) args.work.now args.left
             args.again args.w) args.c.now args.out.now args.at _ _ _ (along-next (rewrite
-            (scope args.op args.card.now args.root.now args.chain.now) args.work.now args.left args.again args.w) args.c.now
+            (scope_of args.scope.now) args.work.now args.left args.again args.w) args.c.now
             args.out.now args.at _ loop.i loop.p loop.invariant.0 _ (tail-part args.c.now _ loop.i part.ensures)
             (sym is-short.ensures ∙ if1.false) _ (ap (λ (x : ℕ). 4 + x) record-length.ensures.0) _ part2.ensures _ _ replace-record.ensures),
       ),
@@ -324,8 +324,8 @@ replace_parts-returns t c =
     let args = c.args in
     let loop = c.loop-i in
     let loop-test = c.loop-i-test in
-    parts-gives (scope args.op args.card.now args.root.now args.chain.now) args.work.now args.again args.w args.c.now args.left
-    args.at args.out.now _ _ (along-end (rewrite (scope args.op args.card.now args.root.now args.chain.now) args.work.now
+    parts-gives (scope_of args.scope.now) args.work.now args.again args.w args.c.now args.left
+    args.at args.out.now _ _ (along-end (rewrite (scope_of args.scope.now) args.work.now
     args.left args.again args.w) args.c.now args.out.now args.at _ loop.i loop.p loop.invariant.0 (omega (arith, loop-test.false)))
 
 pub replace_record-overflow_add-result : goal.replace_record-overflow_add-result
@@ -334,7 +334,7 @@ replace_record-overflow_add-result t c =
     let if1 = c.if-left-eq0 in
     omega (
       arith,
-      no-depth-fits (scope args.op args.card.now args.root.now args.chain.now) args.work.now args.again args.w
+      no-depth-fits (scope_of args.scope.now) args.work.now args.again args.w
           args.r.now args.at args.left args.out.now 0 args.out.now if1.true c.requires,
     )
 
@@ -343,7 +343,7 @@ replace_record-returns-then-left-eq0 t c =
     let args = c.args in
     let if1 = c.if-left-eq0 in
     let lay = c.lay in
-    no-depth-gives (scope args.op args.card.now args.root.now args.chain.now) args.work.now args.again args.w args.r.now
+    no-depth-gives (scope_of args.scope.now) args.work.now args.again args.w args.r.now
     args.at args.left args.out.now 0 _ if1.true lay.ensures
 
 pub replace_record-replace_type-requires : goal.replace_record-replace_type-requires
@@ -355,7 +355,7 @@ replace_record-replace_type-requires t c =
     let if2 = c.if-stands in (
       record-falls _ args.left 3 c.decreases if1.false (lit< tt),
       (
-        less-asks (scope args.op args.card.now args.root.now args.chain.now)
+        less-asks (scope_of args.scope.now)
             args.work.now args.again args.w args.r.now args.at args.left args.out.now 0 args.out.now if1.false c.requires,
         rw
             (sym record-kind.ensures.0) (step-type record-kind.result (sym stands.ensures ∙ if2.true)),
@@ -367,7 +367,7 @@ replace_record-returns-then-stands t c =
     let args = c.args in
     let if1 = c.if-left-eq0 in
     let replace-type = c.replace_type in
-    less-gives (scope args.op args.card.now args.root.now args.chain.now) args.work.now args.again args.w args.r.now args.at
+    less-gives (scope_of args.scope.now) args.work.now args.again args.w args.r.now args.at
     args.left args.out.now _ _ if1.false replace-type.ensures
 
 pub replace_record-replace_expr-requires : goal.replace_record-replace_expr-requires
@@ -381,7 +381,7 @@ replace_record-replace_expr-requires t c =
     let if3 = c.if-stands-2 in (
       record-falls _ args.left 3 c.decreases if1.false (lit< tt),
       (
-        less-asks (scope args.op args.card.now args.root.now args.chain.now)
+        less-asks (scope_of args.scope.now)
             args.work.now args.again args.w args.r.now args.at args.left args.out.now 0 args.out.now if1.false c.requires,
         rw
             (sym record-kind.ensures.0) (step-expr record-kind.result (sym stands.ensures ∙ if2.false) (sym stands2.ensures ∙ if3.true)),
@@ -393,7 +393,7 @@ replace_record-returns-then-stands-2 t c =
     let args = c.args in
     let if1 = c.if-left-eq0 in
     let replace-expr = c.replace_expr in
-    less-gives (scope args.op args.card.now args.root.now args.chain.now) args.work.now args.again args.w args.r.now args.at
+    less-gives (scope_of args.scope.now) args.work.now args.again args.w args.r.now args.at
     args.left args.out.now _ _ if1.false replace-expr.ensures
 
 pub replace_record-replace_fn-requires : goal.replace_record-replace_fn-requires
@@ -408,7 +408,7 @@ replace_record-replace_fn-requires t c =
     let if4 = c.if-k-eq125 in (
       record-falls _ args.left 2 c.decreases if1.false (lit< tt),
       (
-        fn_asks (scope args.op args.card.now args.root.now args.chain.now)
+        fn_asks (scope_of args.scope.now)
             args.work.now args.again args.w args.r.now args.at args.left args.out.now 0 args.out.now if1.false record-kind.result
             record-kind.ensures.0 (sym stands.ensures ∙ if2.false) (sym stands2.ensures ∙ if3.false) if4.true c.requires,
         sym record-kind.ensures.0 ∙
@@ -428,7 +428,7 @@ replace_record-returns-then-k-eq125 t c =
     let if3 = c.if-stands-2 in
     let if4 = c.if-k-eq125 in
     let replace-fn = c.replace_fn in
-    fn-gives (scope args.op args.card.now args.root.now args.chain.now) args.work.now args.again args.w args.r.now args.at
+    fn-gives (scope_of args.scope.now) args.work.now args.again args.w args.r.now args.at
     args.left args.out.now _ _ if1.false record-kind.result record-kind.ensures.0 (sym stands.ensures ∙ if2.false)
     (sym stands2.ensures ∙ if3.false) if4.true replace-fn.ensures
 
@@ -446,7 +446,7 @@ replace_record-overflow_add-result-then-is_left t c =
     let if5 = c.if-is_left in
     omega (
       arith,
-      left-fits (scope args.op args.card.now args.root.now args.chain.now) args.work.now args.again args.w args.r.now
+      left-fits (scope_of args.scope.now) args.work.now args.again args.w args.r.now
           args.at args.left args.out.now 0 args.out.now if1.false record-kind.result record-kind.ensures.0 (sym stands.ensures ∙ if2.false)
           (sym stands2.ensures ∙ if3.false) if4.false (sym is-left.ensures ∙ if5.true) c.requires,
     )
@@ -464,7 +464,7 @@ replace_record-returns-then-is_left t c =
     let is-left = c.is_left in
     let if5 = c.if-is_left in
     let lay2 = c.lay-then-is_left in
-    left-gives (scope args.op args.card.now args.root.now args.chain.now) args.work.now args.again args.w args.r.now args.at
+    left-gives (scope_of args.scope.now) args.work.now args.again args.w args.r.now args.at
     args.left args.out.now 0 _ if1.false record-kind.result record-kind.ensures.0 (sym stands.ensures ∙ if2.false)
     (sym stands2.ensures ∙ if3.false) if4.false (sym is-left.ensures ∙ if5.true) lay2.ensures
 
@@ -481,7 +481,7 @@ replace_record-replace_kept-requires t c =
     let is-left = c.is_left in
     let if5 = c.if-is_left in (
       record-falls _ args.left 2 c.decreases if1.false (lit< tt),
-      holds-asks (scope args.op args.card.now args.root.now args.chain.now)
+      holds-asks (scope_of args.scope.now)
           args.work.now args.again args.w args.r.now args.at args.left args.out.now 0 args.out.now if1.false record-kind.result
           record-kind.ensures.0 (sym stands.ensures ∙ if2.false) (sym stands2.ensures ∙ if3.false) if4.false (sym is-left.ensures ∙ if5.false)
           c.requires,
@@ -500,7 +500,7 @@ replace_record-returns t c =
     let is-left = c.is_left in
     let if5 = c.if-is_left in
     let replace-kept = c.replace_kept in
-    holds-gives (scope args.op args.card.now args.root.now args.chain.now) args.work.now args.again args.w args.r.now args.at
+    holds-gives (scope_of args.scope.now) args.work.now args.again args.w args.r.now args.at
     args.left args.out.now _ _ if1.false record-kind.result record-kind.ensures.0 (sym stands.ensures ∙ if2.false)
     (sym stands2.ensures ∙ if3.false) if4.false (sym is-left.ensures ∙ if5.false) replace-kept.ensures
 
@@ -510,7 +510,7 @@ replace_type-returns-then-record_kind-eq45 t c =
     let args = c.args in
     let if1 = c.if-record_kind-eq45 in
     let write-type = c.write_type in
-    path-type-gives (scope args.op args.card.now args.root.now args.chain.now) args.work.now args.again args.w args.r.now
+    path-type-gives (scope_of args.scope.now) args.work.now args.again args.w args.r.now
     args.left record-kind.result args.at record-kind.ensures.0 args.out.now _ _ c.requires.step if1.true c.requires.room write-type.ensures
 
 pub replace_type-deeper-requires : goal.replace_type-deeper-requires
@@ -523,7 +523,7 @@ replace_type-replace_kept-requires t c =
     let if1 = c.if-record_kind-eq45 in
     let deeper = c.deeper in (
       omega (arith, c.decreases),
-      type-asks (scope args.op args.card.now args.root.now args.chain.now) args.work.now args.again args.w
+      type-asks (scope_of args.scope.now) args.work.now args.again args.w
           args.r.now args.left record-kind.result args.at record-kind.ensures.0 args.out.now 0 args.out.now c.requires.step if1.false _
           deeper.ensures c.requires.room,
     )
@@ -535,5 +535,5 @@ replace_type-returns t c =
     let if1 = c.if-record_kind-eq45 in
     let deeper = c.deeper in
     let replace-kept = c.replace_kept in
-    type-gives (scope args.op args.card.now args.root.now args.chain.now) args.work.now args.again args.w args.r.now args.left
+    type-gives (scope_of args.scope.now) args.work.now args.again args.w args.r.now args.left
     record-kind.result args.at record-kind.ensures.0 args.out.now _ _ c.requires.step if1.false _ deeper.ensures replace-kept.ensures

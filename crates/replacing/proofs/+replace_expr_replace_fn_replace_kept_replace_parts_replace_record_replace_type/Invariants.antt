@@ -2,7 +2,7 @@
 use mathlib.Core.Path.{◌≡◌}
 use Prim.Native.Nat.{◌+◌, ◌*◌, ◌-◌}
 use lib.ListN.{length}
-use Rattle.prefix.specs.Prefix.{scope}
+use Rattle.prefix.specs.Prefix.{scope_of}
 use Rattle.rewriting.specs.Rewrites.{rewrite}
 use Rattle.replacing.proofs.Along.{Along}
 use Rattle.replacing.proofs.+replace_expr_replace_fn_replace_kept_replace_parts_replace_record_replace_type.Given as goal
@@ -26,7 +26,7 @@ abbrev pub decreases-replace_type : goal.decreases-replace_type
 decreases-replace_type l = 4 * l.left + 3
 
 abbrev pub invariant-replace_parts-loop-i : goal.invariant-replace_parts-loop-i
-invariant-replace_parts-loop-i l = Along (rewrite (scope l.op l.card l.root l.chain) l.work l.left l.again l.w) l.c l.initial.out l.at
+invariant-replace_parts-loop-i l = Along (rewrite (scope_of l.scope) l.work l.left l.again l.w) l.c l.initial.out l.at
     l.out l.i l.p × (length l.out ≡ length l.initial.out)
 
 abbrev pub decreases-replace_parts-loop-i : goal.decreases-replace_parts-loop-i

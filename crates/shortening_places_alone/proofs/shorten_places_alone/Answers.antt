@@ -1,17 +1,19 @@
 -- `shortening_places_alone::shorten_places_alone` meets its contract, by the laws of Own. Assumes nothing.
-use mathlib.Core.Path.{sym, ◌∙◌}
+use Rattle.std.proofs.Common.{rules, Err}
+use mathlib.Core.Path.{◌≡◌, refl, sym}
 use native.Mathlib.Omega.{arith}
 use Rattle.shortening_places_alone.proofs.Own.{alone-refused}
 use Rattle.shortening_places_alone.proofs.shorten_places_alone.Goals as goal
 
-pub returns-in-Refused : goal.returns-in-Refused
-returns-in-Refused c =
+pub returns-in_err-admit : goal.returns-in_err-admit
+returns-in_err-admit c =
     let args = c.args in
+    let e : c.from_residual.result ≡ Err c.in_err-admit.field-0.0 = search rules in
     alone-refused args.pass args.card.now args.root.now args.out.now args.list.now (λ i. (c.type_inv.card i).fits)
-    (λ i. (c.type_inv.root i).fits) _ c.admit-v.ensures _ c.in-Refused.is
+    (λ i. (c.type_inv.root i).fits) _ c.in_err-admit.ensures _ e refl
 
-pub shorten_small-requires : goal.shorten_small-requires
-shorten_small-requires c = (sym c.admit-v.ensures ∙ c.in-Sound.is, omega (arith, c.if-card-lt594.true))
+pub shorten_with-requires : goal.shorten_with-requires
+shorten_with-requires c = (sym c.in_ok-admit.ensures, omega (arith, c.if-card-lt594.true), omega arith)
 
-pub shorten_large-requires : goal.shorten_large-requires
-shorten_large-requires c = sym c.admit-v.ensures ∙ c.in-Sound.is
+pub shorten_with-requires-2 : goal.shorten_with-requires-2
+shorten_with-requires-2 c = (sym c.in_ok-admit.ensures, omega arith, omega arith)

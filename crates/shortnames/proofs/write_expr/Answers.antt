@@ -1,7 +1,7 @@
 -- `shortnames::write_expr` meets its contract, test by test. Assumes nothing.
 use native.Mathlib.Omega.{arith}
 use Rattle.operation.proofs.Weights.{weight-small}
-use Rattle.prefix.specs.Prefix.{scope}
+use Rattle.prefix.specs.Prefix.{scope_of}
 use Rattle.shortnames.proofs.Tests.{fit, fit-name, expr-unfit, expr-short, expr-long}
 use Rattle.shortnames.proofs.write_expr.Goals as goal
 
@@ -10,7 +10,7 @@ returns-then-unfit c =
     let args = c.args in
     let unfit = c.unfit in
     let if1 = c.if-unfit in
-    expr-unfit (scope args.op args.card.now args.root.now args.chain.now) args.work.now args.r.now args.out.now args.at _
+    expr-unfit (scope_of args.scope.now) args.work.now args.r.now args.out.now args.at _
     unfit.ensures if1.true
 
 pub overflow_add-end : goal.overflow_add-end
@@ -44,7 +44,7 @@ overflow_add-result c =
     let name_in = c.name_in-name in
     let weight = c.weight-weight in
     let fits = fit args.at 0 args.r.now _ unfit.ensures if1.false in
-    omega (arith, fits.0, fit-name args.r.now _ name_in.ensures fits.2, weight.ensures, weight-small args.op)
+    omega (arith, fits.0, fit-name args.r.now _ name_in.ensures fits.2, weight.ensures, weight-small args.scope.now.op)
 
 pub returns-then-replaces_expr : goal.returns-then-replaces_expr
 returns-then-replaces_expr c =
@@ -57,7 +57,7 @@ returns-then-replaces_expr c =
     let weight = c.weight-weight in
     let lay-named = c.lay_named in
     let lay-zeros = c.lay_zeros in
-    expr-short (scope args.op args.card.now args.root.now args.chain.now) args.work.now args.r.now args.out.now args.at _
+    expr-short (scope_of args.scope.now) args.work.now args.r.now args.out.now args.at _
     unfit.ensures if1.false _ replaces-expr.ensures if2.true _ name_in.ensures _ lay-named.ensures _ weight.ensures _
     lay-zeros.ensures
 
@@ -77,5 +77,5 @@ returns c =
     let replaces-expr = c.replaces_expr in
     let if2 = c.if-replaces_expr in
     let lay = c.lay in
-    expr-long (scope args.op args.card.now args.root.now args.chain.now) args.work.now args.r.now args.out.now args.at _
+    expr-long (scope_of args.scope.now) args.work.now args.r.now args.out.now args.at _
     unfit.ensures if1.false _ replaces-expr.ensures if2.false _ lay.ensures

@@ -1,7 +1,7 @@
 -- `shortnames::write_type` meets its contract, test by test. Assumes nothing.
 use native.Mathlib.Omega.{arith}
 use Rattle.operation.proofs.Weights.{weight-small}
-use Rattle.prefix.specs.Prefix.{scope}
+use Rattle.prefix.specs.Prefix.{scope_of}
 use Rattle.shortnames.proofs.Tests.{fit, fit-name, fit-end, type-unfit, type-short, type-long}
 use Rattle.shortnames.proofs.write_type.Goals as goal
 
@@ -10,7 +10,7 @@ returns-then-unfit c =
     let args = c.args in
     let unfit = c.unfit in
     let if1 = c.if-unfit in
-    type-unfit (scope args.op args.card.now args.root.now args.chain.now) args.work.now args.r.now args.out.now args.at _
+    type-unfit (scope_of args.scope.now) args.work.now args.r.now args.out.now args.at _
     args.w unfit.ensures if1.true
 
 pub lay_synonyms-end-requires : goal.lay_synonyms-end-requires
@@ -31,7 +31,7 @@ overflow_add-result c =
     let lay-synonyms = c.lay_synonyms-end in
     let weight = c.weight-weight in
     let end = fit-end args.at args.w args.r.now _ unfit.ensures if1.false _ name_in.ensures _ _ _ lay-synonyms.ensures in
-    omega (arith, end, weight.ensures, weight-small args.op)
+    omega (arith, end, weight.ensures, weight-small args.scope.now.op)
 
 pub returns-then-replaces_type : goal.returns-then-replaces_type
 returns-then-replaces_type c =
@@ -44,7 +44,7 @@ returns-then-replaces_type c =
     let lay-synonyms = c.lay_synonyms-end in
     let weight = c.weight-weight in
     let lay-zeros = c.lay_zeros in
-    type-short (scope args.op args.card.now args.root.now args.chain.now) args.work.now args.r.now args.out.now args.at _
+    type-short (scope_of args.scope.now) args.work.now args.r.now args.out.now args.at _
     args.w unfit.ensures if1.false _ replaces-type.ensures if2.true _ name_in.ensures _ _ lay-synonyms.ensures _ weight.ensures _
     lay-zeros.ensures
 
@@ -64,5 +64,5 @@ returns c =
     let replaces-type = c.replaces_type in
     let if2 = c.if-replaces_type in
     let lay = c.lay in
-    type-long (scope args.op args.card.now args.root.now args.chain.now) args.work.now args.r.now args.out.now args.at _
+    type-long (scope_of args.scope.now) args.work.now args.r.now args.out.now args.at _
     args.w unfit.ensures if1.false _ replaces-type.ensures if2.false _ lay.ensures

@@ -6,7 +6,7 @@ use Prim.Native.Nat.{◌-◌}
 use native.Mathlib.Omega.{arith}
 use Rattle.wire.specs.Numbers.{between}
 use Rattle.wire.proofs.Less.{at_least_one}
-use Rattle.prefix.specs.Prefix.{scope}
+use Rattle.prefix.specs.Prefix.{scope_of}
 use Rattle.adding.specs.Adds.{table}
 use Rattle.gathering.specs.Gathers.{parts_added}
 use Rattle.collecting.proofs.Going.{going_start, going_done, going-short, going-deep, use-name, mod-name, decl-both, visited-decl, less-deep}
@@ -23,18 +23,18 @@ use Rattle.surveying.proofs.+survey_decl_survey_fn_survey_parts.Goals as goal
 pub survey_decl-returns-then-k-eq106 : goal.survey_decl-returns-then-k-eq106
 survey_decl-returns-then-k-eq106 t c =
     let a = c.args in
-    let s = scope a.op a.card.now a.root.now a.chain.now in (
+    let s = scope_of a.scope.now in (
       use-name s (table a.n a.work.now) a.from a.to a.k a.left _ c.if-k-eq106.true c.add_name-m.ensures,
-      use-grows a.op a.left a.again a.w a.k _ c.if-k-eq106.true,
+      use-grows a.scope.now.op a.left a.again a.w a.k _ c.if-k-eq106.true,
     )
 
 pub survey_decl-returns-then-k-eq98 : goal.survey_decl-returns-then-k-eq98
 survey_decl-returns-then-k-eq98 t c =
     let a = c.args in
-    let s = scope a.op a.card.now a.root.now a.chain.now in
+    let s = scope_of a.scope.now in
     let pre = c.requires in (
       mod-name s (table a.n a.work.now) a.from a.to a.k a.left _ c.if-k-eq98.true c.add_name-m.ensures,
-      mod-grows a.op a.left a.again a.w a.k a.card.now a.from a.to pre.0 pre.1 pre.2 pre.3 c.if-k-eq98.true _
+      mod-grows a.scope.now.op a.left a.again a.w a.k a.scope.now.card.now a.from a.to pre.0 pre.1 pre.2 pre.3 c.if-k-eq98.true _
           c.part_growth-g.ensures,
     )
 
@@ -44,11 +44,11 @@ survey_decl-survey_parts-requires t c = (omega (arith, c.decreases), (c.requires
 pub survey_decl-returns : goal.survey_decl-returns
 survey_decl-returns t c =
     let a = c.args in
-    let s = scope a.op a.card.now a.root.now a.chain.now in
+    let s = scope_of a.scope.now in
     let pre = c.requires in (
       decl-both s (table a.n a.work.now) a.from a.to a.k a.left _ pre.4 _ c.add_name-m.ensures
           c.survey_parts.ensures.0,
-      decl-grows a.op a.left a.again a.w a.k _ pre.4 c.if-k-eq106.false
+      decl-grows a.scope.now.op a.left a.again a.w a.k _ pre.4 c.if-k-eq106.false
           c.if-k-eq98.false _ c.survey_parts.ensures.1,
     )
 
@@ -59,13 +59,13 @@ pub survey_fn-overflow_sub-mid : goal.survey_fn-overflow_sub-mid
 survey_fn-overflow_sub-mid t c =
     let a = c.args in
     let pre = c.requires.within in
-    omega (arith, mid-fits a.card.now a.from a.to pre.0 pre.1 _ _ c.rest.ensures c.rest-body.ensures, pre.0)
+    omega (arith, mid-fits a.scope.now.card.now a.from a.to pre.0 pre.1 _ _ c.rest.ensures c.rest-body.ensures, pre.0)
 
 pub survey_fn-survey_parts-a-requires : goal.survey_fn-survey_parts-a-requires
 survey_fn-survey_parts-a-requires t c =
     let a = c.args in
     let pre = c.requires.within in
-    let m = mid-fits a.card.now a.from a.to pre.0 pre.1 _ _ c.rest.ensures c.rest-body.ensures in
+    let m = mid-fits a.scope.now.card.now a.from a.to pre.0 pre.1 _ _ c.rest.ensures c.rest-body.ensures in
     (omega (arith, c.decreases), (omega (arith, pre.0), omega (arith, pre.1), pre.2, omega (arith, pre.3)))
 
 pub survey_fn-survey_parts-b-requires : goal.survey_fn-survey_parts-b-requires
@@ -80,8 +80,8 @@ survey_fn-overflow_add-result t c =
     let pre = c.requires.within in
     omega (
       arith,
-      fn-fits a.card.now a.from a.to pre.0 pre.1 _ _ c.rest.ensures c.rest-body.ensures
-          a.op a.left false c.survey_parts-a.result.grown c.survey_parts-b.result.grown _
+      fn-fits a.scope.now.card.now a.from a.to pre.0 pre.1 _ _ c.rest.ensures c.rest-body.ensures
+          a.scope.now.op a.left false c.survey_parts-a.result.grown c.survey_parts-b.result.grown _
           c.walks_again-again.ensures
           c.survey_parts-a.ensures.1 c.survey_parts-b.ensures.1 pre.2 pre.3,
     )
@@ -90,12 +90,12 @@ pub survey_fn-returns : goal.survey_fn-returns
 survey_fn-returns t c =
     let a = c.args in
     let pre = c.requires.within in
-    let s = scope a.op a.card.now a.root.now a.chain.now in (
+    let s = scope_of a.scope.now in (
       fn-parts s a.left a.from a.to (table a.n a.work.now) _ _ pre.1 c.requires.parted _ _ c.rest.ensures
           c.rest-body.ensures
           c.survey_parts-a.ensures.0 c.survey_parts-b.ensures.0,
-      fn-gives a.card.now a.from a.to pre.0 pre.1 _ _ c.rest.ensures c.rest-body.ensures
-          a.op a.left false c.survey_parts-a.result.grown c.survey_parts-b.result.grown _
+      fn-gives a.scope.now.card.now a.from a.to pre.0 pre.1 _ _ c.rest.ensures c.rest-body.ensures
+          a.scope.now.op a.left false c.survey_parts-a.result.grown c.survey_parts-b.result.grown _
           c.walks_again-again.ensures
           c.survey_parts-a.ensures.1 c.survey_parts-b.ensures.1,
     )
@@ -104,8 +104,8 @@ pub survey_parts-loop-at-init : goal.survey_parts-loop-at-init
 survey_parts-loop-at-init t c =
     let a = c.args in
     let pre = c.requires in (
-      going_start (scope a.op a.card.now a.root.now a.chain.now) (table a.n a.work.now) a.from a.to a.k a.left pre.0,
-      turn-start a.op a.card.now a.from a.to a.left a.w false a.again pre.0 pre.1 pre.2 pre.3,
+      going_start (scope_of a.scope.now) (table a.n a.work.now) a.from a.to a.k a.left pre.0,
+      turn-start a.scope.now.op a.scope.now.card.now a.from a.to a.left a.w false a.again pre.0 pre.1 pre.2 pre.3,
       refl,
     )
 
@@ -149,9 +149,9 @@ survey_parts-overflow_add-i t c =
     let h :
     let a = c.args in
     let l = c.loop-at in
-    let s = scope a.op a.card.now a.root.now a.chain.now in
-    Here a.op s (parts_added s a.left a.k (table a.n a.work.now) a.from a.to)
-    (growth_all a.op a.left false a.again a.w (between a.card.now a.from a.to)) a.to a.left
+    let s = scope_of a.scope.now in
+    Here a.scope.now.op s (parts_added s a.left a.k (table a.n a.work.now) a.from a.to)
+    (growth_all a.scope.now.op a.left false a.again a.w (between a.scope.now.card.now a.from a.to)) a.to a.left
     (table l.m l.work) l.at l.of l.i l.deep l.sum a.again l.wraps
     c.record_kind-j.result c.record_length.result =
     let inv = c.loop-at.invariant in
@@ -165,9 +165,9 @@ survey_parts-loop-at-smaller-then-j-eq1 t c =
     let h :
     let a = c.args in
     let l = c.loop-at in
-    let s = scope a.op a.card.now a.root.now a.chain.now in
-    Here a.op s (parts_added s a.left a.k (table a.n a.work.now) a.from a.to)
-    (growth_all a.op a.left false a.again a.w (between a.card.now a.from a.to)) a.to a.left
+    let s = scope_of a.scope.now in
+    Here a.scope.now.op s (parts_added s a.left a.k (table a.n a.work.now) a.from a.to)
+    (growth_all a.scope.now.op a.left false a.again a.w (between a.scope.now.card.now a.from a.to)) a.to a.left
     (table l.m l.work) l.at l.of l.i l.deep l.sum a.again l.wraps
     c.record_kind-j.result c.record_length.result =
     let inv = c.loop-at.invariant in
@@ -181,9 +181,9 @@ survey_parts-loop-at-preserved-then-j-eq1 t c =
     let h :
     let a = c.args in
     let l = c.loop-at in
-    let s = scope a.op a.card.now a.root.now a.chain.now in
-    Here a.op s (parts_added s a.left a.k (table a.n a.work.now) a.from a.to)
-    (growth_all a.op a.left false a.again a.w (between a.card.now a.from a.to)) a.to a.left
+    let s = scope_of a.scope.now in
+    Here a.scope.now.op s (parts_added s a.left a.k (table a.n a.work.now) a.from a.to)
+    (growth_all a.scope.now.op a.left false a.again a.w (between a.scope.now.card.now a.from a.to)) a.to a.left
     (table l.m l.work) l.at l.of l.i l.deep l.sum a.again l.wraps
     c.record_kind-j.result c.record_length.result =
     let inv = c.loop-at.invariant in
@@ -197,9 +197,9 @@ survey_parts-overflow_add-i-then-j-eq3 t c =
     let h :
     let a = c.args in
     let l = c.loop-at in
-    let s = scope a.op a.card.now a.root.now a.chain.now in
-    Here a.op s (parts_added s a.left a.k (table a.n a.work.now) a.from a.to)
-    (growth_all a.op a.left false a.again a.w (between a.card.now a.from a.to)) a.to a.left
+    let s = scope_of a.scope.now in
+    Here a.scope.now.op s (parts_added s a.left a.k (table a.n a.work.now) a.from a.to)
+    (growth_all a.scope.now.op a.left false a.again a.w (between a.scope.now.card.now a.from a.to)) a.to a.left
     (table l.m l.work) l.at l.of l.i l.deep l.sum a.again l.wraps
     c.record_kind-j.result c.record_length.result =
     let inv = c.loop-at.invariant in
@@ -213,9 +213,9 @@ survey_parts-loop-at-smaller-then-j-eq3 t c =
     let h :
     let a = c.args in
     let l = c.loop-at in
-    let s = scope a.op a.card.now a.root.now a.chain.now in
-    Here a.op s (parts_added s a.left a.k (table a.n a.work.now) a.from a.to)
-    (growth_all a.op a.left false a.again a.w (between a.card.now a.from a.to)) a.to a.left
+    let s = scope_of a.scope.now in
+    Here a.scope.now.op s (parts_added s a.left a.k (table a.n a.work.now) a.from a.to)
+    (growth_all a.scope.now.op a.left false a.again a.w (between a.scope.now.card.now a.from a.to)) a.to a.left
     (table l.m l.work) l.at l.of l.i l.deep l.sum a.again l.wraps
     c.record_kind-j.result c.record_length.result =
     let inv = c.loop-at.invariant in
@@ -229,9 +229,9 @@ survey_parts-loop-at-preserved-then-j-eq3 t c =
     let h :
     let a = c.args in
     let l = c.loop-at in
-    let s = scope a.op a.card.now a.root.now a.chain.now in
-    Here a.op s (parts_added s a.left a.k (table a.n a.work.now) a.from a.to)
-    (growth_all a.op a.left false a.again a.w (between a.card.now a.from a.to)) a.to a.left
+    let s = scope_of a.scope.now in
+    Here a.scope.now.op s (parts_added s a.left a.k (table a.n a.work.now) a.from a.to)
+    (growth_all a.scope.now.op a.left false a.again a.w (between a.scope.now.card.now a.from a.to)) a.to a.left
     (table l.m l.work) l.at l.of l.i l.deep l.sum a.again l.wraps
     c.record_kind-j.result c.record_length.result =
     let inv = c.loop-at.invariant in
@@ -245,9 +245,9 @@ survey_parts-overflow_add-sum t c =
     let h :
     let a = c.args in
     let l = c.loop-at in
-    let s = scope a.op a.card.now a.root.now a.chain.now in
-    Here a.op s (parts_added s a.left a.k (table a.n a.work.now) a.from a.to)
-    (growth_all a.op a.left false a.again a.w (between a.card.now a.from a.to)) a.to a.left
+    let s = scope_of a.scope.now in
+    Here a.scope.now.op s (parts_added s a.left a.k (table a.n a.work.now) a.from a.to)
+    (growth_all a.scope.now.op a.left false a.again a.w (between a.scope.now.card.now a.from a.to)) a.to a.left
     (table l.m l.work) l.at l.of l.i l.deep l.sum a.again l.wraps
     c.record_kind-j.result c.record_length.result =
     let inv = c.loop-at.invariant in
@@ -262,9 +262,9 @@ survey_parts-overflow_add-i-then-not-is_entered t c =
     let h :
     let a = c.args in
     let l = c.loop-at in
-    let s = scope a.op a.card.now a.root.now a.chain.now in
-    Here a.op s (parts_added s a.left a.k (table a.n a.work.now) a.from a.to)
-    (growth_all a.op a.left false a.again a.w (between a.card.now a.from a.to)) a.to a.left
+    let s = scope_of a.scope.now in
+    Here a.scope.now.op s (parts_added s a.left a.k (table a.n a.work.now) a.from a.to)
+    (growth_all a.scope.now.op a.left false a.again a.w (between a.scope.now.card.now a.from a.to)) a.to a.left
     (table l.m l.work) l.at l.of l.i l.deep l.sum a.again l.wraps
     c.record_kind-j.result c.record_length.result =
     let inv = c.loop-at.invariant in
@@ -278,9 +278,9 @@ survey_parts-loop-at-smaller-then-not-is_entered t c =
     let h :
     let a = c.args in
     let l = c.loop-at in
-    let s = scope a.op a.card.now a.root.now a.chain.now in
-    Here a.op s (parts_added s a.left a.k (table a.n a.work.now) a.from a.to)
-    (growth_all a.op a.left false a.again a.w (between a.card.now a.from a.to)) a.to a.left
+    let s = scope_of a.scope.now in
+    Here a.scope.now.op s (parts_added s a.left a.k (table a.n a.work.now) a.from a.to)
+    (growth_all a.scope.now.op a.left false a.again a.w (between a.scope.now.card.now a.from a.to)) a.to a.left
     (table l.m l.work) l.at l.of l.i l.deep l.sum a.again l.wraps
     c.record_kind-j.result c.record_length.result =
     let inv = c.loop-at.invariant in
@@ -294,9 +294,9 @@ survey_parts-loop-at-preserved-then-not-is_entered t c =
     let h :
     let a = c.args in
     let l = c.loop-at in
-    let s = scope a.op a.card.now a.root.now a.chain.now in
-    Here a.op s (parts_added s a.left a.k (table a.n a.work.now) a.from a.to)
-    (growth_all a.op a.left false a.again a.w (between a.card.now a.from a.to)) a.to a.left
+    let s = scope_of a.scope.now in
+    Here a.scope.now.op s (parts_added s a.left a.k (table a.n a.work.now) a.from a.to)
+    (growth_all a.scope.now.op a.left false a.again a.w (between a.scope.now.card.now a.from a.to)) a.to a.left
     (table l.m l.work) l.at l.of l.i l.deep l.sum a.again l.wraps
     c.record_kind-j.result c.record_length.result =
     let inv = c.loop-at.invariant in
@@ -314,9 +314,9 @@ survey_parts-overflow_add-inner t c =
     let h :
     let a = c.args in
     let l = c.loop-at in
-    let s = scope a.op a.card.now a.root.now a.chain.now in
-    Here a.op s (parts_added s a.left a.k (table a.n a.work.now) a.from a.to)
-    (growth_all a.op a.left false a.again a.w (between a.card.now a.from a.to)) a.to a.left
+    let s = scope_of a.scope.now in
+    Here a.scope.now.op s (parts_added s a.left a.k (table a.n a.work.now) a.from a.to)
+    (growth_all a.scope.now.op a.left false a.again a.w (between a.scope.now.card.now a.from a.to)) a.to a.left
     (table l.m l.work) l.at l.of l.i l.deep l.sum a.again l.wraps
     c.record_kind-j.result c.record_length.result =
     let inv = c.loop-at.invariant in
@@ -330,9 +330,9 @@ survey_parts-slice_bounds-name_in-count t c =
     let h :
     let a = c.args in
     let l = c.loop-at in
-    let s = scope a.op a.card.now a.root.now a.chain.now in
-    Here a.op s (parts_added s a.left a.k (table a.n a.work.now) a.from a.to)
-    (growth_all a.op a.left false a.again a.w (between a.card.now a.from a.to)) a.to a.left
+    let s = scope_of a.scope.now in
+    Here a.scope.now.op s (parts_added s a.left a.k (table a.n a.work.now) a.from a.to)
+    (growth_all a.scope.now.op a.left false a.again a.w (between a.scope.now.card.now a.from a.to)) a.to a.left
     (table l.m l.work) l.at l.of l.i l.deep l.sum a.again l.wraps
     c.record_kind-j.result c.record_length.result =
     let inv = c.loop-at.invariant in
@@ -346,9 +346,9 @@ survey_parts-slice_bounds-name_in-start t c =
     let h :
     let a = c.args in
     let l = c.loop-at in
-    let s = scope a.op a.card.now a.root.now a.chain.now in
-    Here a.op s (parts_added s a.left a.k (table a.n a.work.now) a.from a.to)
-    (growth_all a.op a.left false a.again a.w (between a.card.now a.from a.to)) a.to a.left
+    let s = scope_of a.scope.now in
+    Here a.scope.now.op s (parts_added s a.left a.k (table a.n a.work.now) a.from a.to)
+    (growth_all a.scope.now.op a.left false a.again a.w (between a.scope.now.card.now a.from a.to)) a.to a.left
     (table l.m l.work) l.at l.of l.i l.deep l.sum a.again l.wraps
     c.record_kind-j.result c.record_length.result =
     let inv = c.loop-at.invariant in
@@ -362,9 +362,9 @@ survey_parts-slice_bounds-name_in-end t c =
     let h :
     let a = c.args in
     let l = c.loop-at in
-    let s = scope a.op a.card.now a.root.now a.chain.now in
-    Here a.op s (parts_added s a.left a.k (table a.n a.work.now) a.from a.to)
-    (growth_all a.op a.left false a.again a.w (between a.card.now a.from a.to)) a.to a.left
+    let s = scope_of a.scope.now in
+    Here a.scope.now.op s (parts_added s a.left a.k (table a.n a.work.now) a.from a.to)
+    (growth_all a.scope.now.op a.left false a.again a.w (between a.scope.now.card.now a.from a.to)) a.to a.left
     (table l.m l.work) l.at l.of l.i l.deep l.sum a.again l.wraps
     c.record_kind-j.result c.record_length.result =
     let inv = c.loop-at.invariant in
@@ -378,9 +378,9 @@ survey_parts-overflow_mul-sum t c =
     let h :
     let a = c.args in
     let l = c.loop-at in
-    let s = scope a.op a.card.now a.root.now a.chain.now in
-    Here a.op s (parts_added s a.left a.k (table a.n a.work.now) a.from a.to)
-    (growth_all a.op a.left false a.again a.w (between a.card.now a.from a.to)) a.to a.left
+    let s = scope_of a.scope.now in
+    Here a.scope.now.op s (parts_added s a.left a.k (table a.n a.work.now) a.from a.to)
+    (growth_all a.scope.now.op a.left false a.again a.w (between a.scope.now.card.now a.from a.to)) a.to a.left
     (table l.m l.work) l.at l.of l.i l.deep l.sum a.again l.wraps
     c.record_kind-j.result c.record_length.result =
     let inv = c.loop-at.invariant in
@@ -394,9 +394,9 @@ survey_parts-overflow_add-sum-then-j-eq45-2 t c =
     let h :
     let a = c.args in
     let l = c.loop-at in
-    let s = scope a.op a.card.now a.root.now a.chain.now in
-    Here a.op s (parts_added s a.left a.k (table a.n a.work.now) a.from a.to)
-    (growth_all a.op a.left false a.again a.w (between a.card.now a.from a.to)) a.to a.left
+    let s = scope_of a.scope.now in
+    Here a.scope.now.op s (parts_added s a.left a.k (table a.n a.work.now) a.from a.to)
+    (growth_all a.scope.now.op a.left false a.again a.w (between a.scope.now.card.now a.from a.to)) a.to a.left
     (table l.m l.work) l.at l.of l.i l.deep l.sum a.again l.wraps
     c.record_kind-j.result c.record_length.result =
     let inv = c.loop-at.invariant in
@@ -411,9 +411,9 @@ survey_parts-overflow_add-i-then-j-eq45 t c =
     let h :
     let a = c.args in
     let l = c.loop-at in
-    let s = scope a.op a.card.now a.root.now a.chain.now in
-    Here a.op s (parts_added s a.left a.k (table a.n a.work.now) a.from a.to)
-    (growth_all a.op a.left false a.again a.w (between a.card.now a.from a.to)) a.to a.left
+    let s = scope_of a.scope.now in
+    Here a.scope.now.op s (parts_added s a.left a.k (table a.n a.work.now) a.from a.to)
+    (growth_all a.scope.now.op a.left false a.again a.w (between a.scope.now.card.now a.from a.to)) a.to a.left
     (table l.m l.work) l.at l.of l.i l.deep l.sum a.again l.wraps
     c.record_kind-j.result c.record_length.result =
     let inv = c.loop-at.invariant in
@@ -427,9 +427,9 @@ survey_parts-loop-at-smaller-then-j-eq45 t c =
     let h :
     let a = c.args in
     let l = c.loop-at in
-    let s = scope a.op a.card.now a.root.now a.chain.now in
-    Here a.op s (parts_added s a.left a.k (table a.n a.work.now) a.from a.to)
-    (growth_all a.op a.left false a.again a.w (between a.card.now a.from a.to)) a.to a.left
+    let s = scope_of a.scope.now in
+    Here a.scope.now.op s (parts_added s a.left a.k (table a.n a.work.now) a.from a.to)
+    (growth_all a.scope.now.op a.left false a.again a.w (between a.scope.now.card.now a.from a.to)) a.to a.left
     (table l.m l.work) l.at l.of l.i l.deep l.sum a.again l.wraps
     c.record_kind-j.result c.record_length.result =
     let inv = c.loop-at.invariant in
@@ -443,9 +443,9 @@ survey_parts-loop-at-preserved-then-j-eq45 t c =
     let h :
     let a = c.args in
     let l = c.loop-at in
-    let s = scope a.op a.card.now a.root.now a.chain.now in
-    Here a.op s (parts_added s a.left a.k (table a.n a.work.now) a.from a.to)
-    (growth_all a.op a.left false a.again a.w (between a.card.now a.from a.to)) a.to a.left
+    let s = scope_of a.scope.now in
+    Here a.scope.now.op s (parts_added s a.left a.k (table a.n a.work.now) a.from a.to)
+    (growth_all a.scope.now.op a.left false a.again a.w (between a.scope.now.card.now a.from a.to)) a.to a.left
     (table l.m l.work) l.at l.of l.i l.deep l.sum a.again l.wraps
     c.record_kind-j.result c.record_length.result =
     let inv = c.loop-at.invariant in
@@ -464,9 +464,9 @@ survey_parts-overflow_add-i-then-j-eq92 t c =
     let h :
     let a = c.args in
     let l = c.loop-at in
-    let s = scope a.op a.card.now a.root.now a.chain.now in
-    Here a.op s (parts_added s a.left a.k (table a.n a.work.now) a.from a.to)
-    (growth_all a.op a.left false a.again a.w (between a.card.now a.from a.to)) a.to a.left
+    let s = scope_of a.scope.now in
+    Here a.scope.now.op s (parts_added s a.left a.k (table a.n a.work.now) a.from a.to)
+    (growth_all a.scope.now.op a.left false a.again a.w (between a.scope.now.card.now a.from a.to)) a.to a.left
     (table l.m l.work) l.at l.of l.i l.deep l.sum a.again l.wraps
     c.record_kind-j.result c.record_length.result =
     let inv = c.loop-at.invariant in
@@ -480,9 +480,9 @@ survey_parts-loop-at-smaller-then-j-eq92 t c =
     let h :
     let a = c.args in
     let l = c.loop-at in
-    let s = scope a.op a.card.now a.root.now a.chain.now in
-    Here a.op s (parts_added s a.left a.k (table a.n a.work.now) a.from a.to)
-    (growth_all a.op a.left false a.again a.w (between a.card.now a.from a.to)) a.to a.left
+    let s = scope_of a.scope.now in
+    Here a.scope.now.op s (parts_added s a.left a.k (table a.n a.work.now) a.from a.to)
+    (growth_all a.scope.now.op a.left false a.again a.w (between a.scope.now.card.now a.from a.to)) a.to a.left
     (table l.m l.work) l.at l.of l.i l.deep l.sum a.again l.wraps
     c.record_kind-j.result c.record_length.result =
     let inv = c.loop-at.invariant in
@@ -496,9 +496,9 @@ survey_parts-loop-at-preserved-then-j-eq92 t c =
     let h :
     let a = c.args in
     let l = c.loop-at in
-    let s = scope a.op a.card.now a.root.now a.chain.now in
-    Here a.op s (parts_added s a.left a.k (table a.n a.work.now) a.from a.to)
-    (growth_all a.op a.left false a.again a.w (between a.card.now a.from a.to)) a.to a.left
+    let s = scope_of a.scope.now in
+    Here a.scope.now.op s (parts_added s a.left a.k (table a.n a.work.now) a.from a.to)
+    (growth_all a.scope.now.op a.left false a.again a.w (between a.scope.now.card.now a.from a.to)) a.to a.left
     (table l.m l.work) l.at l.of l.i l.deep l.sum a.again l.wraps
     c.record_kind-j.result c.record_length.result =
     let inv = c.loop-at.invariant in
@@ -516,9 +516,9 @@ survey_parts-overflow_sub-deep t c =
     let h :
     let a = c.args in
     let l = c.loop-at in
-    let s = scope a.op a.card.now a.root.now a.chain.now in
-    Here a.op s (parts_added s a.left a.k (table a.n a.work.now) a.from a.to)
-    (growth_all a.op a.left false a.again a.w (between a.card.now a.from a.to)) a.to a.left
+    let s = scope_of a.scope.now in
+    Here a.scope.now.op s (parts_added s a.left a.k (table a.n a.work.now) a.from a.to)
+    (growth_all a.scope.now.op a.left false a.again a.w (between a.scope.now.card.now a.from a.to)) a.to a.left
     (table l.m l.work) l.at l.of l.i l.deep l.sum a.again l.wraps
     c.record_kind-j.result c.record_length.result =
     let inv = c.loop-at.invariant in
@@ -532,9 +532,9 @@ survey_parts-survey_decl-d-requires t c =
     let h :
     let a = c.args in
     let l = c.loop-at in
-    let s = scope a.op a.card.now a.root.now a.chain.now in
-    Here a.op s (parts_added s a.left a.k (table a.n a.work.now) a.from a.to)
-    (growth_all a.op a.left false a.again a.w (between a.card.now a.from a.to)) a.to a.left
+    let s = scope_of a.scope.now in
+    Here a.scope.now.op s (parts_added s a.left a.k (table a.n a.work.now) a.from a.to)
+    (growth_all a.scope.now.op a.left false a.again a.w (between a.scope.now.card.now a.from a.to)) a.to a.left
     (table l.m l.work) l.at l.of l.i l.deep l.sum a.again l.wraps
     c.record_kind-j.result c.record_length.result =
     let inv = c.loop-at.invariant in
@@ -557,9 +557,9 @@ survey_parts-overflow_add-sum-then-stands t c =
     let h :
     let a = c.args in
     let l = c.loop-at in
-    let s = scope a.op a.card.now a.root.now a.chain.now in
-    Here a.op s (parts_added s a.left a.k (table a.n a.work.now) a.from a.to)
-    (growth_all a.op a.left false a.again a.w (between a.card.now a.from a.to)) a.to a.left
+    let s = scope_of a.scope.now in
+    Here a.scope.now.op s (parts_added s a.left a.k (table a.n a.work.now) a.from a.to)
+    (growth_all a.scope.now.op a.left false a.again a.w (between a.scope.now.card.now a.from a.to)) a.to a.left
     (table l.m l.work) l.at l.of l.i l.deep l.sum a.again l.wraps
     c.record_kind-j.result c.record_length.result =
     let inv = c.loop-at.invariant in
@@ -575,9 +575,9 @@ survey_parts-overflow_add-i-then-stands t c =
     let h :
     let a = c.args in
     let l = c.loop-at in
-    let s = scope a.op a.card.now a.root.now a.chain.now in
-    Here a.op s (parts_added s a.left a.k (table a.n a.work.now) a.from a.to)
-    (growth_all a.op a.left false a.again a.w (between a.card.now a.from a.to)) a.to a.left
+    let s = scope_of a.scope.now in
+    Here a.scope.now.op s (parts_added s a.left a.k (table a.n a.work.now) a.from a.to)
+    (growth_all a.scope.now.op a.left false a.again a.w (between a.scope.now.card.now a.from a.to)) a.to a.left
     (table l.m l.work) l.at l.of l.i l.deep l.sum a.again l.wraps
     c.record_kind-j.result c.record_length.result =
     let inv = c.loop-at.invariant in
@@ -591,9 +591,9 @@ survey_parts-loop-at-smaller-then-stands t c =
     let h :
     let a = c.args in
     let l = c.loop-at in
-    let s = scope a.op a.card.now a.root.now a.chain.now in
-    Here a.op s (parts_added s a.left a.k (table a.n a.work.now) a.from a.to)
-    (growth_all a.op a.left false a.again a.w (between a.card.now a.from a.to)) a.to a.left
+    let s = scope_of a.scope.now in
+    Here a.scope.now.op s (parts_added s a.left a.k (table a.n a.work.now) a.from a.to)
+    (growth_all a.scope.now.op a.left false a.again a.w (between a.scope.now.card.now a.from a.to)) a.to a.left
     (table l.m l.work) l.at l.of l.i l.deep l.sum a.again l.wraps
     c.record_kind-j.result c.record_length.result =
     let inv = c.loop-at.invariant in
@@ -607,9 +607,9 @@ survey_parts-loop-at-preserved-then-stands t c =
     let h :
     let a = c.args in
     let l = c.loop-at in
-    let s = scope a.op a.card.now a.root.now a.chain.now in
-    Here a.op s (parts_added s a.left a.k (table a.n a.work.now) a.from a.to)
-    (growth_all a.op a.left false a.again a.w (between a.card.now a.from a.to)) a.to a.left
+    let s = scope_of a.scope.now in
+    Here a.scope.now.op s (parts_added s a.left a.k (table a.n a.work.now) a.from a.to)
+    (growth_all a.scope.now.op a.left false a.again a.w (between a.scope.now.card.now a.from a.to)) a.to a.left
     (table l.m l.work) l.at l.of l.i l.deep l.sum a.again l.wraps
     c.record_kind-j.result c.record_length.result =
     let inv = c.loop-at.invariant in
@@ -628,9 +628,9 @@ survey_parts-slice_bounds-is_parted-count t c =
     let h :
     let a = c.args in
     let l = c.loop-at in
-    let s = scope a.op a.card.now a.root.now a.chain.now in
-    Here a.op s (parts_added s a.left a.k (table a.n a.work.now) a.from a.to)
-    (growth_all a.op a.left false a.again a.w (between a.card.now a.from a.to)) a.to a.left
+    let s = scope_of a.scope.now in
+    Here a.scope.now.op s (parts_added s a.left a.k (table a.n a.work.now) a.from a.to)
+    (growth_all a.scope.now.op a.left false a.again a.w (between a.scope.now.card.now a.from a.to)) a.to a.left
     (table l.m l.work) l.at l.of l.i l.deep l.sum a.again l.wraps
     c.record_kind-j.result c.record_length.result =
     let inv = c.loop-at.invariant in
@@ -644,9 +644,9 @@ survey_parts-slice_bounds-is_parted-start t c =
     let h :
     let a = c.args in
     let l = c.loop-at in
-    let s = scope a.op a.card.now a.root.now a.chain.now in
-    Here a.op s (parts_added s a.left a.k (table a.n a.work.now) a.from a.to)
-    (growth_all a.op a.left false a.again a.w (between a.card.now a.from a.to)) a.to a.left
+    let s = scope_of a.scope.now in
+    Here a.scope.now.op s (parts_added s a.left a.k (table a.n a.work.now) a.from a.to)
+    (growth_all a.scope.now.op a.left false a.again a.w (between a.scope.now.card.now a.from a.to)) a.to a.left
     (table l.m l.work) l.at l.of l.i l.deep l.sum a.again l.wraps
     c.record_kind-j.result c.record_length.result =
     let inv = c.loop-at.invariant in
@@ -660,9 +660,9 @@ survey_parts-slice_bounds-is_parted-end t c =
     let h :
     let a = c.args in
     let l = c.loop-at in
-    let s = scope a.op a.card.now a.root.now a.chain.now in
-    Here a.op s (parts_added s a.left a.k (table a.n a.work.now) a.from a.to)
-    (growth_all a.op a.left false a.again a.w (between a.card.now a.from a.to)) a.to a.left
+    let s = scope_of a.scope.now in
+    Here a.scope.now.op s (parts_added s a.left a.k (table a.n a.work.now) a.from a.to)
+    (growth_all a.scope.now.op a.left false a.again a.w (between a.scope.now.card.now a.from a.to)) a.to a.left
     (table l.m l.work) l.at l.of l.i l.deep l.sum a.again l.wraps
     c.record_kind-j.result c.record_length.result =
     let inv = c.loop-at.invariant in
@@ -676,9 +676,9 @@ survey_parts-overflow_sub-deep-then-is_parted t c =
     let h :
     let a = c.args in
     let l = c.loop-at in
-    let s = scope a.op a.card.now a.root.now a.chain.now in
-    Here a.op s (parts_added s a.left a.k (table a.n a.work.now) a.from a.to)
-    (growth_all a.op a.left false a.again a.w (between a.card.now a.from a.to)) a.to a.left
+    let s = scope_of a.scope.now in
+    Here a.scope.now.op s (parts_added s a.left a.k (table a.n a.work.now) a.from a.to)
+    (growth_all a.scope.now.op a.left false a.again a.w (between a.scope.now.card.now a.from a.to)) a.to a.left
     (table l.m l.work) l.at l.of l.i l.deep l.sum a.again l.wraps
     c.record_kind-j.result c.record_length.result =
     let inv = c.loop-at.invariant in
@@ -692,9 +692,9 @@ survey_parts-survey_fn-f-requires t c =
     let h :
     let a = c.args in
     let l = c.loop-at in
-    let s = scope a.op a.card.now a.root.now a.chain.now in
-    Here a.op s (parts_added s a.left a.k (table a.n a.work.now) a.from a.to)
-    (growth_all a.op a.left false a.again a.w (between a.card.now a.from a.to)) a.to a.left
+    let s = scope_of a.scope.now in
+    Here a.scope.now.op s (parts_added s a.left a.k (table a.n a.work.now) a.from a.to)
+    (growth_all a.scope.now.op a.left false a.again a.w (between a.scope.now.card.now a.from a.to)) a.to a.left
     (table l.m l.work) l.at l.of l.i l.deep l.sum a.again l.wraps
     c.record_kind-j.result c.record_length.result =
     let inv = c.loop-at.invariant in
@@ -714,9 +714,9 @@ survey_parts-overflow_add-sum-then-is_parted t c =
     let h :
     let a = c.args in
     let l = c.loop-at in
-    let s = scope a.op a.card.now a.root.now a.chain.now in
-    Here a.op s (parts_added s a.left a.k (table a.n a.work.now) a.from a.to)
-    (growth_all a.op a.left false a.again a.w (between a.card.now a.from a.to)) a.to a.left
+    let s = scope_of a.scope.now in
+    Here a.scope.now.op s (parts_added s a.left a.k (table a.n a.work.now) a.from a.to)
+    (growth_all a.scope.now.op a.left false a.again a.w (between a.scope.now.card.now a.from a.to)) a.to a.left
     (table l.m l.work) l.at l.of l.i l.deep l.sum a.again l.wraps
     c.record_kind-j.result c.record_length.result =
     let inv = c.loop-at.invariant in
@@ -733,9 +733,9 @@ survey_parts-overflow_add-i-then-is_parted t c =
     let h :
     let a = c.args in
     let l = c.loop-at in
-    let s = scope a.op a.card.now a.root.now a.chain.now in
-    Here a.op s (parts_added s a.left a.k (table a.n a.work.now) a.from a.to)
-    (growth_all a.op a.left false a.again a.w (between a.card.now a.from a.to)) a.to a.left
+    let s = scope_of a.scope.now in
+    Here a.scope.now.op s (parts_added s a.left a.k (table a.n a.work.now) a.from a.to)
+    (growth_all a.scope.now.op a.left false a.again a.w (between a.scope.now.card.now a.from a.to)) a.to a.left
     (table l.m l.work) l.at l.of l.i l.deep l.sum a.again l.wraps
     c.record_kind-j.result c.record_length.result =
     let inv = c.loop-at.invariant in
@@ -749,9 +749,9 @@ survey_parts-loop-at-smaller-then-is_parted t c =
     let h :
     let a = c.args in
     let l = c.loop-at in
-    let s = scope a.op a.card.now a.root.now a.chain.now in
-    Here a.op s (parts_added s a.left a.k (table a.n a.work.now) a.from a.to)
-    (growth_all a.op a.left false a.again a.w (between a.card.now a.from a.to)) a.to a.left
+    let s = scope_of a.scope.now in
+    Here a.scope.now.op s (parts_added s a.left a.k (table a.n a.work.now) a.from a.to)
+    (growth_all a.scope.now.op a.left false a.again a.w (between a.scope.now.card.now a.from a.to)) a.to a.left
     (table l.m l.work) l.at l.of l.i l.deep l.sum a.again l.wraps
     c.record_kind-j.result c.record_length.result =
     let inv = c.loop-at.invariant in
@@ -765,9 +765,9 @@ survey_parts-loop-at-preserved-then-is_parted t c =
     let h :
     let a = c.args in
     let l = c.loop-at in
-    let s = scope a.op a.card.now a.root.now a.chain.now in
-    Here a.op s (parts_added s a.left a.k (table a.n a.work.now) a.from a.to)
-    (growth_all a.op a.left false a.again a.w (between a.card.now a.from a.to)) a.to a.left
+    let s = scope_of a.scope.now in
+    Here a.scope.now.op s (parts_added s a.left a.k (table a.n a.work.now) a.from a.to)
+    (growth_all a.scope.now.op a.left false a.again a.w (between a.scope.now.card.now a.from a.to)) a.to a.left
     (table l.m l.work) l.at l.of l.i l.deep l.sum a.again l.wraps
     c.record_kind-j.result c.record_length.result =
     let inv = c.loop-at.invariant in
@@ -788,9 +788,9 @@ survey_parts-overflow_sub-deep-then-j-eq125 t c =
     let h :
     let a = c.args in
     let l = c.loop-at in
-    let s = scope a.op a.card.now a.root.now a.chain.now in
-    Here a.op s (parts_added s a.left a.k (table a.n a.work.now) a.from a.to)
-    (growth_all a.op a.left false a.again a.w (between a.card.now a.from a.to)) a.to a.left
+    let s = scope_of a.scope.now in
+    Here a.scope.now.op s (parts_added s a.left a.k (table a.n a.work.now) a.from a.to)
+    (growth_all a.scope.now.op a.left false a.again a.w (between a.scope.now.card.now a.from a.to)) a.to a.left
     (table l.m l.work) l.at l.of l.i l.deep l.sum a.again l.wraps
     c.record_kind-j.result c.record_length.result =
     let inv = c.loop-at.invariant in
@@ -804,9 +804,9 @@ survey_parts-survey_parts-o-requires t c =
     let h :
     let a = c.args in
     let l = c.loop-at in
-    let s = scope a.op a.card.now a.root.now a.chain.now in
-    Here a.op s (parts_added s a.left a.k (table a.n a.work.now) a.from a.to)
-    (growth_all a.op a.left false a.again a.w (between a.card.now a.from a.to)) a.to a.left
+    let s = scope_of a.scope.now in
+    Here a.scope.now.op s (parts_added s a.left a.k (table a.n a.work.now) a.from a.to)
+    (growth_all a.scope.now.op a.left false a.again a.w (between a.scope.now.card.now a.from a.to)) a.to a.left
     (table l.m l.work) l.at l.of l.i l.deep l.sum a.again l.wraps
     c.record_kind-j.result c.record_length.result =
     let inv = c.loop-at.invariant in
@@ -823,9 +823,9 @@ survey_parts-overflow_add-sum-then-j-eq125 t c =
     let h :
     let a = c.args in
     let l = c.loop-at in
-    let s = scope a.op a.card.now a.root.now a.chain.now in
-    Here a.op s (parts_added s a.left a.k (table a.n a.work.now) a.from a.to)
-    (growth_all a.op a.left false a.again a.w (between a.card.now a.from a.to)) a.to a.left
+    let s = scope_of a.scope.now in
+    Here a.scope.now.op s (parts_added s a.left a.k (table a.n a.work.now) a.from a.to)
+    (growth_all a.scope.now.op a.left false a.again a.w (between a.scope.now.card.now a.from a.to)) a.to a.left
     (table l.m l.work) l.at l.of l.i l.deep l.sum a.again l.wraps
     c.record_kind-j.result c.record_length.result =
     let inv = c.loop-at.invariant in
@@ -840,9 +840,9 @@ survey_parts-overflow_add-i-then-j-eq125 t c =
     let h :
     let a = c.args in
     let l = c.loop-at in
-    let s = scope a.op a.card.now a.root.now a.chain.now in
-    Here a.op s (parts_added s a.left a.k (table a.n a.work.now) a.from a.to)
-    (growth_all a.op a.left false a.again a.w (between a.card.now a.from a.to)) a.to a.left
+    let s = scope_of a.scope.now in
+    Here a.scope.now.op s (parts_added s a.left a.k (table a.n a.work.now) a.from a.to)
+    (growth_all a.scope.now.op a.left false a.again a.w (between a.scope.now.card.now a.from a.to)) a.to a.left
     (table l.m l.work) l.at l.of l.i l.deep l.sum a.again l.wraps
     c.record_kind-j.result c.record_length.result =
     let inv = c.loop-at.invariant in
@@ -856,9 +856,9 @@ survey_parts-loop-at-smaller-then-j-eq125 t c =
     let h :
     let a = c.args in
     let l = c.loop-at in
-    let s = scope a.op a.card.now a.root.now a.chain.now in
-    Here a.op s (parts_added s a.left a.k (table a.n a.work.now) a.from a.to)
-    (growth_all a.op a.left false a.again a.w (between a.card.now a.from a.to)) a.to a.left
+    let s = scope_of a.scope.now in
+    Here a.scope.now.op s (parts_added s a.left a.k (table a.n a.work.now) a.from a.to)
+    (growth_all a.scope.now.op a.left false a.again a.w (between a.scope.now.card.now a.from a.to)) a.to a.left
     (table l.m l.work) l.at l.of l.i l.deep l.sum a.again l.wraps
     c.record_kind-j.result c.record_length.result =
     let inv = c.loop-at.invariant in
@@ -872,9 +872,9 @@ survey_parts-loop-at-preserved-then-j-eq125 t c =
     let h :
     let a = c.args in
     let l = c.loop-at in
-    let s = scope a.op a.card.now a.root.now a.chain.now in
-    Here a.op s (parts_added s a.left a.k (table a.n a.work.now) a.from a.to)
-    (growth_all a.op a.left false a.again a.w (between a.card.now a.from a.to)) a.to a.left
+    let s = scope_of a.scope.now in
+    Here a.scope.now.op s (parts_added s a.left a.k (table a.n a.work.now) a.from a.to)
+    (growth_all a.scope.now.op a.left false a.again a.w (between a.scope.now.card.now a.from a.to)) a.to a.left
     (table l.m l.work) l.at l.of l.i l.deep l.sum a.again l.wraps
     c.record_kind-j.result c.record_length.result =
     let inv = c.loop-at.invariant in
@@ -893,9 +893,9 @@ survey_parts-overflow_sub-deep-then-is_fixed t c =
     let h :
     let a = c.args in
     let l = c.loop-at in
-    let s = scope a.op a.card.now a.root.now a.chain.now in
-    Here a.op s (parts_added s a.left a.k (table a.n a.work.now) a.from a.to)
-    (growth_all a.op a.left false a.again a.w (between a.card.now a.from a.to)) a.to a.left
+    let s = scope_of a.scope.now in
+    Here a.scope.now.op s (parts_added s a.left a.k (table a.n a.work.now) a.from a.to)
+    (growth_all a.scope.now.op a.left false a.again a.w (between a.scope.now.card.now a.from a.to)) a.to a.left
     (table l.m l.work) l.at l.of l.i l.deep l.sum a.again l.wraps
     c.record_kind-j.result c.record_length.result =
     let inv = c.loop-at.invariant in
@@ -909,9 +909,9 @@ survey_parts-survey_parts-x-requires t c =
     let h :
     let a = c.args in
     let l = c.loop-at in
-    let s = scope a.op a.card.now a.root.now a.chain.now in
-    Here a.op s (parts_added s a.left a.k (table a.n a.work.now) a.from a.to)
-    (growth_all a.op a.left false a.again a.w (between a.card.now a.from a.to)) a.to a.left
+    let s = scope_of a.scope.now in
+    Here a.scope.now.op s (parts_added s a.left a.k (table a.n a.work.now) a.from a.to)
+    (growth_all a.scope.now.op a.left false a.again a.w (between a.scope.now.card.now a.from a.to)) a.to a.left
     (table l.m l.work) l.at l.of l.i l.deep l.sum a.again l.wraps
     c.record_kind-j.result c.record_length.result =
     let inv = c.loop-at.invariant in
@@ -928,9 +928,9 @@ survey_parts-overflow_add-i-then-is_fixed t c =
     let h :
     let a = c.args in
     let l = c.loop-at in
-    let s = scope a.op a.card.now a.root.now a.chain.now in
-    Here a.op s (parts_added s a.left a.k (table a.n a.work.now) a.from a.to)
-    (growth_all a.op a.left false a.again a.w (between a.card.now a.from a.to)) a.to a.left
+    let s = scope_of a.scope.now in
+    Here a.scope.now.op s (parts_added s a.left a.k (table a.n a.work.now) a.from a.to)
+    (growth_all a.scope.now.op a.left false a.again a.w (between a.scope.now.card.now a.from a.to)) a.to a.left
     (table l.m l.work) l.at l.of l.i l.deep l.sum a.again l.wraps
     c.record_kind-j.result c.record_length.result =
     let inv = c.loop-at.invariant in
@@ -944,9 +944,9 @@ survey_parts-loop-at-smaller-then-is_fixed t c =
     let h :
     let a = c.args in
     let l = c.loop-at in
-    let s = scope a.op a.card.now a.root.now a.chain.now in
-    Here a.op s (parts_added s a.left a.k (table a.n a.work.now) a.from a.to)
-    (growth_all a.op a.left false a.again a.w (between a.card.now a.from a.to)) a.to a.left
+    let s = scope_of a.scope.now in
+    Here a.scope.now.op s (parts_added s a.left a.k (table a.n a.work.now) a.from a.to)
+    (growth_all a.scope.now.op a.left false a.again a.w (between a.scope.now.card.now a.from a.to)) a.to a.left
     (table l.m l.work) l.at l.of l.i l.deep l.sum a.again l.wraps
     c.record_kind-j.result c.record_length.result =
     let inv = c.loop-at.invariant in
@@ -960,9 +960,9 @@ survey_parts-loop-at-preserved-then-is_fixed t c =
     let h :
     let a = c.args in
     let l = c.loop-at in
-    let s = scope a.op a.card.now a.root.now a.chain.now in
-    Here a.op s (parts_added s a.left a.k (table a.n a.work.now) a.from a.to)
-    (growth_all a.op a.left false a.again a.w (between a.card.now a.from a.to)) a.to a.left
+    let s = scope_of a.scope.now in
+    Here a.scope.now.op s (parts_added s a.left a.k (table a.n a.work.now) a.from a.to)
+    (growth_all a.scope.now.op a.left false a.again a.w (between a.scope.now.card.now a.from a.to)) a.to a.left
     (table l.m l.work) l.at l.of l.i l.deep l.sum a.again l.wraps
     c.record_kind-j.result c.record_length.result =
     let inv = c.loop-at.invariant in
@@ -981,9 +981,9 @@ survey_parts-overflow_sub-deep-then-next-to t c =
     let h :
     let a = c.args in
     let l = c.loop-at in
-    let s = scope a.op a.card.now a.root.now a.chain.now in
-    Here a.op s (parts_added s a.left a.k (table a.n a.work.now) a.from a.to)
-    (growth_all a.op a.left false a.again a.w (between a.card.now a.from a.to)) a.to a.left
+    let s = scope_of a.scope.now in
+    Here a.scope.now.op s (parts_added s a.left a.k (table a.n a.work.now) a.from a.to)
+    (growth_all a.scope.now.op a.left false a.again a.w (between a.scope.now.card.now a.from a.to)) a.to a.left
     (table l.m l.work) l.at l.of l.i l.deep l.sum a.again l.wraps
     c.record_kind-j.result c.record_length.result =
     let inv = c.loop-at.invariant in
@@ -997,9 +997,9 @@ survey_parts-loop-at-smaller-then-next-to t c =
     let h :
     let a = c.args in
     let l = c.loop-at in
-    let s = scope a.op a.card.now a.root.now a.chain.now in
-    Here a.op s (parts_added s a.left a.k (table a.n a.work.now) a.from a.to)
-    (growth_all a.op a.left false a.again a.w (between a.card.now a.from a.to)) a.to a.left
+    let s = scope_of a.scope.now in
+    Here a.scope.now.op s (parts_added s a.left a.k (table a.n a.work.now) a.from a.to)
+    (growth_all a.scope.now.op a.left false a.again a.w (between a.scope.now.card.now a.from a.to)) a.to a.left
     (table l.m l.work) l.at l.of l.i l.deep l.sum a.again l.wraps
     c.record_kind-j.result c.record_length.result =
     let inv = c.loop-at.invariant in
@@ -1013,9 +1013,9 @@ survey_parts-loop-at-preserved-then-next-to t c =
     let h :
     let a = c.args in
     let l = c.loop-at in
-    let s = scope a.op a.card.now a.root.now a.chain.now in
-    Here a.op s (parts_added s a.left a.k (table a.n a.work.now) a.from a.to)
-    (growth_all a.op a.left false a.again a.w (between a.card.now a.from a.to)) a.to a.left
+    let s = scope_of a.scope.now in
+    Here a.scope.now.op s (parts_added s a.left a.k (table a.n a.work.now) a.from a.to)
+    (growth_all a.scope.now.op a.left false a.again a.w (between a.scope.now.card.now a.from a.to)) a.to a.left
     (table l.m l.work) l.at l.of l.i l.deep l.sum a.again l.wraps
     c.record_kind-j.result c.record_length.result =
     let inv = c.loop-at.invariant in
@@ -1036,9 +1036,9 @@ survey_parts-overflow_sub-deep-in-loop-at t c =
     let h :
     let a = c.args in
     let l = c.loop-at in
-    let s = scope a.op a.card.now a.root.now a.chain.now in
-    Here a.op s (parts_added s a.left a.k (table a.n a.work.now) a.from a.to)
-    (growth_all a.op a.left false a.again a.w (between a.card.now a.from a.to)) a.to a.left
+    let s = scope_of a.scope.now in
+    Here a.scope.now.op s (parts_added s a.left a.k (table a.n a.work.now) a.from a.to)
+    (growth_all a.scope.now.op a.left false a.again a.w (between a.scope.now.card.now a.from a.to)) a.to a.left
     (table l.m l.work) l.at l.of l.i l.deep l.sum a.again l.wraps
     c.record_kind-j.result c.record_length.result =
     let inv = c.loop-at.invariant in
@@ -1052,9 +1052,9 @@ survey_parts-survey_parts-p-requires t c =
     let h :
     let a = c.args in
     let l = c.loop-at in
-    let s = scope a.op a.card.now a.root.now a.chain.now in
-    Here a.op s (parts_added s a.left a.k (table a.n a.work.now) a.from a.to)
-    (growth_all a.op a.left false a.again a.w (between a.card.now a.from a.to)) a.to a.left
+    let s = scope_of a.scope.now in
+    Here a.scope.now.op s (parts_added s a.left a.k (table a.n a.work.now) a.from a.to)
+    (growth_all a.scope.now.op a.left false a.again a.w (between a.scope.now.card.now a.from a.to)) a.to a.left
     (table l.m l.work) l.at l.of l.i l.deep l.sum a.again l.wraps
     c.record_kind-j.result c.record_length.result =
     let inv = c.loop-at.invariant in
@@ -1074,9 +1074,9 @@ survey_parts-overflow_add-sum-in-loop-at t c =
     let h :
     let a = c.args in
     let l = c.loop-at in
-    let s = scope a.op a.card.now a.root.now a.chain.now in
-    Here a.op s (parts_added s a.left a.k (table a.n a.work.now) a.from a.to)
-    (growth_all a.op a.left false a.again a.w (between a.card.now a.from a.to)) a.to a.left
+    let s = scope_of a.scope.now in
+    Here a.scope.now.op s (parts_added s a.left a.k (table a.n a.work.now) a.from a.to)
+    (growth_all a.scope.now.op a.left false a.again a.w (between a.scope.now.card.now a.from a.to)) a.to a.left
     (table l.m l.work) l.at l.of l.i l.deep l.sum a.again l.wraps
     c.record_kind-j.result c.record_length.result =
     let inv = c.loop-at.invariant in
@@ -1093,9 +1093,9 @@ survey_parts-overflow_add-i-in-loop-at t c =
     let h :
     let a = c.args in
     let l = c.loop-at in
-    let s = scope a.op a.card.now a.root.now a.chain.now in
-    Here a.op s (parts_added s a.left a.k (table a.n a.work.now) a.from a.to)
-    (growth_all a.op a.left false a.again a.w (between a.card.now a.from a.to)) a.to a.left
+    let s = scope_of a.scope.now in
+    Here a.scope.now.op s (parts_added s a.left a.k (table a.n a.work.now) a.from a.to)
+    (growth_all a.scope.now.op a.left false a.again a.w (between a.scope.now.card.now a.from a.to)) a.to a.left
     (table l.m l.work) l.at l.of l.i l.deep l.sum a.again l.wraps
     c.record_kind-j.result c.record_length.result =
     let inv = c.loop-at.invariant in
@@ -1109,9 +1109,9 @@ survey_parts-loop-at-smaller t c =
     let h :
     let a = c.args in
     let l = c.loop-at in
-    let s = scope a.op a.card.now a.root.now a.chain.now in
-    Here a.op s (parts_added s a.left a.k (table a.n a.work.now) a.from a.to)
-    (growth_all a.op a.left false a.again a.w (between a.card.now a.from a.to)) a.to a.left
+    let s = scope_of a.scope.now in
+    Here a.scope.now.op s (parts_added s a.left a.k (table a.n a.work.now) a.from a.to)
+    (growth_all a.scope.now.op a.left false a.again a.w (between a.scope.now.card.now a.from a.to)) a.to a.left
     (table l.m l.work) l.at l.of l.i l.deep l.sum a.again l.wraps
     c.record_kind-j.result c.record_length.result =
     let inv = c.loop-at.invariant in
@@ -1125,9 +1125,9 @@ survey_parts-loop-at-preserved t c =
     let h :
     let a = c.args in
     let l = c.loop-at in
-    let s = scope a.op a.card.now a.root.now a.chain.now in
-    Here a.op s (parts_added s a.left a.k (table a.n a.work.now) a.from a.to)
-    (growth_all a.op a.left false a.again a.w (between a.card.now a.from a.to)) a.to a.left
+    let s = scope_of a.scope.now in
+    Here a.scope.now.op s (parts_added s a.left a.k (table a.n a.work.now) a.from a.to)
+    (growth_all a.scope.now.op a.left false a.again a.w (between a.scope.now.card.now a.from a.to)) a.to a.left
     (table l.m l.work) l.at l.of l.i l.deep l.sum a.again l.wraps
     c.record_kind-j.result c.record_length.result =
     let inv = c.loop-at.invariant in

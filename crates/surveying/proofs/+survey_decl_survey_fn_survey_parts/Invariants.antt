@@ -5,7 +5,7 @@ use mathlib.Core.Bool.{false}
 use Prim.Native.Nat.{◌*◌, ◌+◌, ◌-◌}
 use lib.ListN.{length}
 use Rattle.wire.specs.Numbers.{between}
-use Rattle.prefix.specs.Prefix.{scope}
+use Rattle.prefix.specs.Prefix.{scope_of}
 use Rattle.adding.specs.Adds.{table}
 use Rattle.gathering.specs.Gathers.{parts_added}
 use Rattle.collecting.proofs.Going.{Going}
@@ -25,8 +25,8 @@ decreases-survey_parts l = 2 * l.left
 
 abbrev pub invariant-survey_parts-loop-at : goal.invariant-survey_parts-loop-at
 invariant-survey_parts-loop-at l =
-    Going (scope l.op l.card l.root l.chain) (parts_added (scope l.op l.card l.root l.chain) l.left l.k (table l.n l.initial.work) l.from l.to) l.to l.left (table l.m l.work) l.at l.of l.i l.deep
-    × Turn l.op (growth_all l.op l.left false l.again l.w (between l.card l.from l.to)) l.card l.to l.left l.at l.sum false l.again l.wraps l.deep
+    Going (scope_of l.scope) (parts_added (scope_of l.scope) l.left l.k (table l.n l.initial.work) l.from l.to) l.to l.left (table l.m l.work) l.at l.of l.i l.deep
+    × Turn l.scope.op (growth_all l.scope.op l.left false l.again l.w (between l.scope.card.now l.from l.to)) l.scope.card.now l.to l.left l.at l.sum false l.again l.wraps l.deep
     × (length l.work ≡ length l.initial.work)
 
 abbrev pub decreases-survey_parts-loop-at : goal.decreases-survey_parts-loop-at

@@ -1,6 +1,6 @@
 -- `tables::table_of` meets its contract. Assumes nothing.
 use mathlib.Core.Path.{refl}
-use Rattle.prefix.specs.Prefix.{scope}
+use Rattle.prefix.specs.Prefix.{scope_of}
 use Rattle.tables.proofs.Owner.{owner-same, owner-settled}
 use Rattle.tables.proofs.table_of.Goals as goal
 
@@ -15,5 +15,5 @@ returns c =
     let if1 = c.if-held-at in
     let collect-module = c.collect_module-n in
     let settle = c.settle in
-    let s = scope args.op args.card.now args.root.now args.chain.now in
+    let s = scope_of args.scope.now in
     (refl, owner-settled s _ _ _ _ if1.false _ _ _ collect-module.ensures settle.ensures)

@@ -1,24 +1,20 @@
 -- `test_text::decimal` meets its contract: what the digits say is what those ahead say after those passed. Assumes nothing.
-use Prim.Native.Nat.{◌-◌}
-use native.Mathlib.Omega.{arith}
-use Rattle.test_text.proofs.Text.{ahead-all, ahead-end, ahead-stop, ahead-large, ahead-digit}
+use Rattle.std.proofs.Common.{sym, ◌∙◌, arith}
+use Rattle.std.proofs.lemmas.Bool.Decides.{nat_tests}
+use Rattle.test_text.proofs.Text.{decimal_digit}
 use Rattle.test_text.proofs.decimal.Goals as goal
 
-pub loop-i-init : goal.loop-i-init
-loop-i-init c = ahead-all _
+pub loop-b-preserved : goal.loop-b-preserved
+loop-b-preserved c =
+    let e = decimal_digit c.args.s.now c.loop-b.n c.loop-b.b-index c.in-Some.d (omega arith) (sym c.hex_value.ensures.0 ∙ c.in-Some.is) in
+    grind (arith, nat_tests)
 
-pub returns-then-d-ge10 : goal.returns-then-d-ge10
-returns-then-d-ge10 c = ahead-stop c.loop-i.invariant (omega arith) _ c.hex_value-d.ensures.0 c.if-d-ge10.true
+pub returns-in_default : goal.returns-in_default
+returns-in_default c =
+    let e = decimal_digit c.args.s.now c.loop-b.n c.loop-b.b-index c.in-Some.d (omega arith) (sym c.hex_value.ensures.0 ∙ c.in-Some.is) in
+    grind (arith, nat_tests)
 
-pub returns-then-n-ge4294967296 : goal.returns-then-n-ge4294967296
-returns-then-n-ge4294967296 c =
-    ahead-large c.loop-i.invariant (omega arith) _
-    c.hex_value-d.ensures.0 (omega arith) (omega arith)
-
-pub loop-i-preserved : goal.loop-i-preserved
-loop-i-preserved c =
-    ahead-digit c.loop-i.invariant (omega arith) _
-    c.hex_value-d.ensures.0 (omega arith) (omega arith)
-
-pub returns : goal.returns
-returns c = ahead-end c.loop-i.invariant (omega arith)
+pub returns-in_default-2 : goal.returns-in_default-2
+returns-in_default-2 c =
+    let e = decimal_digit c.args.s.now c.loop-b.n c.loop-b.b-index c.in-Some.d (omega arith) (sym c.hex_value.ensures.0 ∙ c.in-Some.is) in
+    grind (arith, nat_tests)

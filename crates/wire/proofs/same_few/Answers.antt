@@ -1,5 +1,4 @@
 -- `wire::same_few` meets its contract: byte by byte, by the laws of Alike. Assumes nothing.
-use Prim.Native.Nat.{◌-◌}
 use native.Mathlib.Omega.{arith}
 use Rattle.wire.proofs.Alike.{other_length, alike-none, alike_all, alike-not, alike_next}
 use Rattle.wire.proofs.same_few.Goals as goal

@@ -5,10 +5,11 @@ use Prim.Native.Nat.{◌+◌, ◌-◌}
 use native.Mathlib.Omega.{arith}
 use lib.ListN.{length, take, length-append}
 use lib.Seq.{length-take-le}
-use Rattle.prefix.specs.Prefix.{scope}
+use Rattle.prefix.specs.Prefix.{scope_of}
 use Rattle.adding.specs.Adds.{table}
 use Rattle.modules.specs.Modules.{made, declaration_made, module_made}
 use Rattle.modules.proofs.Bound.{declaration-bound, declarations-bound, body-bound, imports-bound}
+use Rattle.writing.specs.Wrote.{place_after}
 use Rattle.writing.proofs.Pieces.{aside-long, saved-gives, saved-keeps, beside-gives, alone-gives, small-fits, small-known, small-gives}
 use Rattle.writing.proofs.Pieces.{inner-gives, other-gives, body-gives, body-inside, mod-all}
 use Rattle.writing.proofs.Going.{wrote-long, going-none, going-long, going-short, going_end, next_fits, going_next}
@@ -38,7 +39,7 @@ write_body-overflow_add-u t c =
     let write-imports = c.write_imports-u in
     omega (
       arith,
-      imports-bound (scope args.op args.card.now args.root.now args.chain.now) (take own-words.result args.work.now)
+      imports-bound (scope_of args.scope.now) (take own-words.result args.work.now)
           c.requires.0.small args.pairs,
       write-imports.ensures.ends,
     )
@@ -68,11 +69,11 @@ write_body-overflow_add-n t c =
     let write-declarations = c.write_declarations-d in
     omega (
       arith,
-      imports-bound (scope args.op args.card.now args.root.now args.chain.now) (take own-words.result args.work.now)
+      imports-bound (scope_of args.scope.now) (take own-words.result args.work.now)
           c.requires.0.small args.pairs,
       write-imports.ensures.ends,
-      declarations-bound args.op args.card.now args.root.now c.requires.0.small (args.left - 1)
-          (omega (arith, c.requires.2)) args.left c.requires.2 args.chain.now args.at (args.from + 6) args.to c.requires.0.inside
+      declarations-bound args.scope.now.op args.scope.now.card.now args.scope.now.root.now c.requires.0.small (args.left - 1)
+          (omega (arith, c.requires.2)) args.left c.requires.2 args.scope.now.chain.now args.at (args.from + 6) args.to c.requires.0.inside
           (made [] 0 args.at (table args.pairs args.work.now)),
       write-declarations.ensures.length-is,
       c.requires.0.inside,
@@ -87,11 +88,11 @@ write_body-overflow_add-n-2 t c =
     let write-declarations = c.write_declarations-d in
     omega (
       arith,
-      imports-bound (scope args.op args.card.now args.root.now args.chain.now) (take own-words.result args.work.now)
+      imports-bound (scope_of args.scope.now) (take own-words.result args.work.now)
           c.requires.0.small args.pairs,
       write-imports.ensures.ends,
-      declarations-bound args.op args.card.now args.root.now c.requires.0.small (args.left - 1)
-          (omega (arith, c.requires.2)) args.left c.requires.2 args.chain.now args.at (args.from + 6) args.to c.requires.0.inside
+      declarations-bound args.scope.now.op args.scope.now.card.now args.scope.now.root.now c.requires.0.small (args.left - 1)
+          (omega (arith, c.requires.2)) args.left c.requires.2 args.scope.now.chain.now args.at (args.from + 6) args.to c.requires.0.inside
           (made [] 0 args.at (table args.pairs args.work.now)),
       write-declarations.ensures.length-is,
       c.requires.0.inside,
@@ -106,11 +107,11 @@ write_body-overflow_add-result t c =
     let write-declarations = c.write_declarations-d in
     omega (
       arith,
-      imports-bound (scope args.op args.card.now args.root.now args.chain.now) (take own-words.result args.work.now)
+      imports-bound (scope_of args.scope.now) (take own-words.result args.work.now)
           c.requires.0.small args.pairs,
       write-imports.ensures.ends,
-      declarations-bound args.op args.card.now args.root.now c.requires.0.small (args.left - 1)
-          (omega (arith, c.requires.2)) args.left c.requires.2 args.chain.now args.at (args.from + 6) args.to c.requires.0.inside
+      declarations-bound args.scope.now.op args.scope.now.card.now args.scope.now.root.now c.requires.0.small (args.left - 1)
+          (omega (arith, c.requires.2)) args.left c.requires.2 args.scope.now.chain.now args.at (args.from + 6) args.to c.requires.0.inside
           (made [] 0 args.at (table args.pairs args.work.now)),
       write-declarations.ensures.length-is,
       c.requires.0.inside,
@@ -126,8 +127,8 @@ write_body-returns t c =
     let least2 = c.least-p in
     let write-declarations = c.write_declarations-d in
     let lay-head = c.lay_head in
-    body-gives args.op args.card.now args.root.now (module_made args.op args.card.now args.root.now (args.left - 1)) args.left
-    args.chain.now args.at args.from args.to (table args.pairs args.work.now) args.out.now _ _ _ _ _ _ _ _ _ _ _ _ least.ensures
+    body-gives args.scope.now.op args.scope.now.card.now args.scope.now.root.now (module_made args.scope.now.op args.scope.now.card.now args.scope.now.root.now (args.left - 1)) args.left
+    args.scope.now.chain.now args.at args.from args.to (table args.pairs args.work.now) args.out.now _ _ _ _ _ _ _ _ _ _ _ _ least.ensures
     own-words.ensures write-imports.ensures least2.ensures write-declarations.ensures lay-head.ensures
 
 pub write_declaration-overflow_sub-to : goal.write_declaration-overflow_sub-to
@@ -140,8 +141,8 @@ write_declaration-returns-then-record_kind-eq98 t c =
     let record-kind = c.record_kind in
     let if1 = c.if-record_kind-eq98 in
     let write-inner = c.write_inner in
-    inner-gives args.op args.card.now args.root.now (module_made args.op args.card.now args.root.now (args.left - 1)) args.left
-    args.chain.now args.at args.from args.to args.owner (table args.pairs args.work.now) _ part.ensures _ record-kind.ensures.0
+    inner-gives args.scope.now.op args.scope.now.card.now args.scope.now.root.now (module_made args.scope.now.op args.scope.now.card.now args.scope.now.root.now (args.left - 1)) args.left
+    args.scope.now.chain.now args.at args.from args.to args.held.owner (table args.held.pairs args.work.now) _ part.ensures _ record-kind.ensures.0
     if1.true _ _ _ _ _ _ _ write-inner.ensures
 
 pub write_declaration-slice_bounds-replace-end-2 : goal.write_declaration-slice_bounds-replace-end-2
@@ -155,18 +156,19 @@ write_declaration-returns t c =
     let part = c.part-r in
     let record-kind = c.record_kind in
     let if1 = c.if-record_kind-eq98 in
-    let table_of = c.table_of-held in
+    let table_of = c.table_of-own in
     let own-words = c.own_words-k in
     let replace = c.replace-n in
-    other-gives args.op args.card.now args.root.now (module_made args.op args.card.now args.root.now (args.left - 1)) args.left
-    args.chain.now args.at args.from args.to args.owner (table args.pairs args.work.now) _ part.ensures _ record-kind.ensures.0
-    if1.false args.out.now _ _ _ _ _ table_of.ensures.1 own-words.ensures replace.ensures
+    rw table_of.ensures.0
+    (other-gives args.scope.now.op args.scope.now.card.now args.scope.now.root.now (module_made args.scope.now.op args.scope.now.card.now args.scope.now.root.now (args.left - 1)) args.left
+    args.scope.now.chain.now args.at args.from args.to args.held.owner (table args.held.pairs args.work.now) _ part.ensures _ record-kind.ensures.0
+    if1.false args.out.now _ _ _ _ _ table_of.ensures.1 own-words.ensures replace.ensures)
 
 pub write_declarations-loop-i-init : goal.write_declarations-loop-i-init
 write_declarations-loop-i-init t c =
     let args = c.args in (
-      going-none args.card.now (declaration_made args.op args.card.now args.root.now
-          (module_made args.op args.card.now args.root.now (args.left - 1)) args.left args.chain.now args.at) args.out.now args.from
+      going-none args.scope.now.card.now (declaration_made args.scope.now.op args.scope.now.card.now args.scope.now.root.now
+          (module_made args.scope.now.op args.scope.now.card.now args.scope.now.root.now (args.left - 1)) args.left args.scope.now.chain.now args.at) args.out.now args.from
           args.to (made [] 0 args.at (table args.pairs args.work.now)) _ _ _ refl,
       refl,
       refl,
@@ -194,9 +196,9 @@ write_declarations-returns-then-is_short t c =
     let part = c.part-s in
     let is-short = c.is_short in
     let if1 = c.if-is_short in
-    going-short args.card.now (declaration_made args.op args.card.now args.root.now
-    (module_made args.op args.card.now args.root.now (args.left - 1)) args.left args.chain.now args.at) args.out.now args.from
-    args.to (made [] 0 args.at (table args.pairs args.work.now)) _ _ loop.i loop.p loop.full loop.owner loop.mine loop.invariant.0 _
+    going-short args.scope.now.card.now (declaration_made args.scope.now.op args.scope.now.card.now args.scope.now.root.now
+    (module_made args.scope.now.op args.scope.now.card.now args.scope.now.root.now (args.left - 1)) args.left args.scope.now.chain.now args.at) args.out.now args.from
+    args.to (made [] 0 args.at (table args.pairs args.work.now)) _ _ loop.i loop.p (place_after loop.full) loop.held.owner loop.held.pairs loop.invariant.0 _
     part.ensures (sym is-short.ensures ∙ if1.true)
 
 pub write_declarations-overflow_add-next : goal.write_declarations-overflow_add-next
@@ -214,9 +216,9 @@ write_declarations-overflow_add-next-in-loop-i t c =
     let record-length = c.record_length in
     omega (
       arith,
-      (next_fits args.card.now (declaration_made args.op args.card.now args.root.now
-          (module_made args.op args.card.now args.root.now (args.left - 1)) args.left args.chain.now args.at) args.out.now args.from
-          args.to (made [] 0 args.at (table args.pairs args.work.now)) _ _ loop.i loop.p loop.full loop.owner loop.mine loop.invariant.0 _
+      (next_fits args.scope.now.card.now (declaration_made args.scope.now.op args.scope.now.card.now args.scope.now.root.now
+          (module_made args.scope.now.op args.scope.now.card.now args.scope.now.root.now (args.left - 1)) args.left args.scope.now.chain.now args.at) args.out.now args.from
+          args.to (made [] 0 args.at (table args.pairs args.work.now)) _ _ loop.i loop.p (place_after loop.full) loop.held.owner loop.held.pairs loop.invariant.0 _
           part.ensures (sym is-short.ensures ∙ if1.false) _ record-length.ensures.0).1,
       c.requires.0.inside,
       c.requires.0.small,
@@ -242,13 +244,13 @@ write_declarations-write_declaration-d-requires t c =
     let record-length = c.record_length in (
       omega (arith, c.decreases),
       (
-        within-part _ _ _ _ _ c.requires.0 _ _ (next_fits args.card.now (declaration_made args.op args.card.now args.root.now
-            (module_made args.op args.card.now args.root.now (args.left - 1)) args.left args.chain.now args.at) args.out.now args.from
-            args.to (made [] 0 args.at (table args.pairs args.work.now)) _ _ loop.i loop.p loop.full loop.owner loop.mine loop.invariant.0 _
-            part.ensures (sym is-short.ensures ∙ if1.false) _ record-length.ensures.0).0 (next_fits args.card.now
-            (declaration_made args.op args.card.now args.root.now (module_made args.op args.card.now args.root.now (args.left - 1)) args.left
-            args.chain.now args.at) args.out.now args.from args.to (made [] 0 args.at (table args.pairs args.work.now)) _ _ loop.i
-            loop.p loop.full loop.owner loop.mine loop.invariant.0 _ part.ensures (sym is-short.ensures ∙ if1.false) _ record-length.ensures.0).1,
+        within-part _ _ _ _ _ c.requires.0 _ _ (next_fits args.scope.now.card.now (declaration_made args.scope.now.op args.scope.now.card.now args.scope.now.root.now
+            (module_made args.scope.now.op args.scope.now.card.now args.scope.now.root.now (args.left - 1)) args.left args.scope.now.chain.now args.at) args.out.now args.from
+            args.to (made [] 0 args.at (table args.pairs args.work.now)) _ _ loop.i loop.p (place_after loop.full) loop.held.owner loop.held.pairs loop.invariant.0 _
+            part.ensures (sym is-short.ensures ∙ if1.false) _ record-length.ensures.0).0 (next_fits args.scope.now.card.now
+            (declaration_made args.scope.now.op args.scope.now.card.now args.scope.now.root.now (module_made args.scope.now.op args.scope.now.card.now args.scope.now.root.now (args.left - 1)) args.left
+            args.scope.now.chain.now args.at) args.out.now args.from args.to (made [] 0 args.at (table args.pairs args.work.now)) _ _ loop.i
+            loop.p (place_after loop.full) loop.held.owner loop.held.pairs loop.invariant.0 _ part.ensures (sym is-short.ensures ∙ if1.false) _ record-length.ensures.0).1,
         c.requires.1,
         c.requires.2,
       ),
@@ -269,19 +271,19 @@ write_declarations-overflow_add-p t c =
       loop.invariant.0.inside,
       c.requires.3,
       write-declaration.ensures.length-is,
-      (declaration-bound args.op args.card.now args.root.now c.requires.0.small (args.left - 1) (omega (arith, c.requires.2)) args.left
-          c.requires.2 args.chain.now args.at loop.i _ (next_fits args.card.now (declaration_made args.op args.card.now args.root.now
-          (module_made args.op args.card.now args.root.now (args.left - 1)) args.left args.chain.now args.at) args.out.now args.from
-          args.to (made [] 0 args.at (table args.pairs args.work.now)) _ _ loop.i loop.p loop.full loop.owner loop.mine loop.invariant.0 _
+      (declaration-bound args.scope.now.op args.scope.now.card.now args.scope.now.root.now c.requires.0.small (args.left - 1) (omega (arith, c.requires.2)) args.left
+          c.requires.2 args.scope.now.chain.now args.at loop.i _ (next_fits args.scope.now.card.now (declaration_made args.scope.now.op args.scope.now.card.now args.scope.now.root.now
+          (module_made args.scope.now.op args.scope.now.card.now args.scope.now.root.now (args.left - 1)) args.left args.scope.now.chain.now args.at) args.out.now args.from
+          args.to (made [] 0 args.at (table args.pairs args.work.now)) _ _ loop.i loop.p (place_after loop.full) loop.held.owner loop.held.pairs loop.invariant.0 _
           part.ensures (sym is-short.ensures ∙ if1.false) _ record-length.ensures.0).0 (inside-card _ _ _
-          (next_fits args.card.now (declaration_made args.op args.card.now args.root.now
-          (module_made args.op args.card.now args.root.now (args.left - 1)) args.left args.chain.now args.at) args.out.now args.from
-          args.to (made [] 0 args.at (table args.pairs args.work.now)) _ _ loop.i loop.p loop.full loop.owner loop.mine loop.invariant.0 _
-          part.ensures (sym is-short.ensures ∙ if1.false) _ record-length.ensures.0).1 c.requires.0.inside)) loop.owner
-          (table loop.mine loop.work),
-      (next_fits args.card.now (declaration_made args.op args.card.now args.root.now
-          (module_made args.op args.card.now args.root.now (args.left - 1)) args.left args.chain.now args.at) args.out.now args.from
-          args.to (made [] 0 args.at (table args.pairs args.work.now)) _ _ loop.i loop.p loop.full loop.owner loop.mine loop.invariant.0 _
+          (next_fits args.scope.now.card.now (declaration_made args.scope.now.op args.scope.now.card.now args.scope.now.root.now
+          (module_made args.scope.now.op args.scope.now.card.now args.scope.now.root.now (args.left - 1)) args.left args.scope.now.chain.now args.at) args.out.now args.from
+          args.to (made [] 0 args.at (table args.pairs args.work.now)) _ _ loop.i loop.p (place_after loop.full) loop.held.owner loop.held.pairs loop.invariant.0 _
+          part.ensures (sym is-short.ensures ∙ if1.false) _ record-length.ensures.0).1 c.requires.0.inside)) loop.held.owner
+          (table loop.held.pairs loop.work),
+      (next_fits args.scope.now.card.now (declaration_made args.scope.now.op args.scope.now.card.now args.scope.now.root.now
+          (module_made args.scope.now.op args.scope.now.card.now args.scope.now.root.now (args.left - 1)) args.left args.scope.now.chain.now args.at) args.out.now args.from
+          args.to (made [] 0 args.at (table args.pairs args.work.now)) _ _ loop.i loop.p (place_after loop.full) loop.held.owner loop.held.pairs loop.invariant.0 _
           part.ensures (sym is-short.ensures ∙ if1.false) _ record-length.ensures.0).1,
       c.requires.0.inside,
       c.requires.0.small,
@@ -299,9 +301,9 @@ write_declarations-loop-i-smaller t c =
     omega (
       arith,
       loop-test.true,
-      (next_fits args.card.now (declaration_made args.op args.card.now args.root.now
-          (module_made args.op args.card.now args.root.now (args.left - 1)) args.left args.chain.now args.at) args.out.now args.from
-          args.to (made [] 0 args.at (table args.pairs args.work.now)) _ _ loop.i loop.p loop.full loop.owner loop.mine loop.invariant.0 _
+      (next_fits args.scope.now.card.now (declaration_made args.scope.now.op args.scope.now.card.now args.scope.now.root.now
+          (module_made args.scope.now.op args.scope.now.card.now args.scope.now.root.now (args.left - 1)) args.left args.scope.now.chain.now args.at) args.out.now args.from
+          args.to (made [] 0 args.at (table args.pairs args.work.now)) _ _ loop.i loop.p (place_after loop.full) loop.held.owner loop.held.pairs loop.invariant.0 _
           part.ensures (sym is-short.ensures ∙ if1.false) _ record-length.ensures.0).0,
     )
 
@@ -316,35 +318,35 @@ write_declarations-loop-i-preserved t c =
     let least = c.least-q in
     let write-declaration = c.write_declaration-d in
     let first-full = c.first_full-full in (
-      going_next args.card.now (declaration_made args.op args.card.now args.root.now
-          (module_made args.op args.card.now args.root.now (args.left - 1)) args.left args.chain.now args.at) args.out.now args.from
-          args.to (made [] 0 args.at (table args.pairs args.work.now)) _ _ loop.i loop.p loop.full loop.owner loop.mine loop.invariant.0 _
+      going_next args.scope.now.card.now (declaration_made args.scope.now.op args.scope.now.card.now args.scope.now.root.now
+          (module_made args.scope.now.op args.scope.now.card.now args.scope.now.root.now (args.left - 1)) args.left args.scope.now.chain.now args.at) args.out.now args.from
+          args.to (made [] 0 args.at (table args.pairs args.work.now)) _ _ loop.i loop.p (place_after loop.full) loop.held.owner loop.held.pairs loop.invariant.0 _
           part.ensures (sym is-short.ensures ∙ if1.false) _ record-length.ensures.0 _ _ _ _ _ _ _ least.ensures write-declaration.ensures
-          (declaration-bound args.op args.card.now args.root.now c.requires.0.small (args.left - 1) (omega (arith, c.requires.2)) args.left
-          c.requires.2 args.chain.now args.at loop.i _ (next_fits args.card.now (declaration_made args.op args.card.now args.root.now
-          (module_made args.op args.card.now args.root.now (args.left - 1)) args.left args.chain.now args.at) args.out.now args.from
-          args.to (made [] 0 args.at (table args.pairs args.work.now)) _ _ loop.i loop.p loop.full loop.owner loop.mine loop.invariant.0 _
+          (declaration-bound args.scope.now.op args.scope.now.card.now args.scope.now.root.now c.requires.0.small (args.left - 1) (omega (arith, c.requires.2)) args.left
+          c.requires.2 args.scope.now.chain.now args.at loop.i _ (next_fits args.scope.now.card.now (declaration_made args.scope.now.op args.scope.now.card.now args.scope.now.root.now
+          (module_made args.scope.now.op args.scope.now.card.now args.scope.now.root.now (args.left - 1)) args.left args.scope.now.chain.now args.at) args.out.now args.from
+          args.to (made [] 0 args.at (table args.pairs args.work.now)) _ _ loop.i loop.p (place_after loop.full) loop.held.owner loop.held.pairs loop.invariant.0 _
           part.ensures (sym is-short.ensures ∙ if1.false) _ record-length.ensures.0).0 (inside-card _ _ _
-          (next_fits args.card.now (declaration_made args.op args.card.now args.root.now
-          (module_made args.op args.card.now args.root.now (args.left - 1)) args.left args.chain.now args.at) args.out.now args.from
-          args.to (made [] 0 args.at (table args.pairs args.work.now)) _ _ loop.i loop.p loop.full loop.owner loop.mine loop.invariant.0 _
+          (next_fits args.scope.now.card.now (declaration_made args.scope.now.op args.scope.now.card.now args.scope.now.root.now
+          (module_made args.scope.now.op args.scope.now.card.now args.scope.now.root.now (args.left - 1)) args.left args.scope.now.chain.now args.at) args.out.now args.from
+          args.to (made [] 0 args.at (table args.pairs args.work.now)) _ _ loop.i loop.p (place_after loop.full) loop.held.owner loop.held.pairs loop.invariant.0 _
           part.ensures (sym is-short.ensures ∙ if1.false) _ record-length.ensures.0).1 c.requires.0.inside)) _ first-full.ensures,
       going-long
-          args.card.now (declaration_made args.op args.card.now args.root.now (module_made args.op args.card.now args.root.now
-          (args.left - 1)) args.left args.chain.now args.at) args.out.now args.from args.to
-          (made [] 0 args.at (table args.pairs args.work.now)) _ _ _ _ _ _ _ (going_next args.card.now
-          (declaration_made args.op args.card.now args.root.now (module_made args.op args.card.now args.root.now (args.left - 1)) args.left
-          args.chain.now args.at) args.out.now args.from args.to (made [] 0 args.at (table args.pairs args.work.now)) _ _ loop.i
-          loop.p loop.full loop.owner loop.mine loop.invariant.0 _ part.ensures (sym is-short.ensures ∙ if1.false) _ record-length.ensures.0 _ _
-          _ _ _ _ _ least.ensures write-declaration.ensures (declaration-bound args.op args.card.now args.root.now c.requires.0.small
-          (args.left - 1) (omega (arith, c.requires.2)) args.left c.requires.2 args.chain.now args.at loop.i _
-          (next_fits args.card.now (declaration_made args.op args.card.now args.root.now
-          (module_made args.op args.card.now args.root.now (args.left - 1)) args.left args.chain.now args.at) args.out.now args.from
-          args.to (made [] 0 args.at (table args.pairs args.work.now)) _ _ loop.i loop.p loop.full loop.owner loop.mine loop.invariant.0 _
+          args.scope.now.card.now (declaration_made args.scope.now.op args.scope.now.card.now args.scope.now.root.now (module_made args.scope.now.op args.scope.now.card.now args.scope.now.root.now
+          (args.left - 1)) args.left args.scope.now.chain.now args.at) args.out.now args.from args.to
+          (made [] 0 args.at (table args.pairs args.work.now)) _ _ _ _ _ _ _ (going_next args.scope.now.card.now
+          (declaration_made args.scope.now.op args.scope.now.card.now args.scope.now.root.now (module_made args.scope.now.op args.scope.now.card.now args.scope.now.root.now (args.left - 1)) args.left
+          args.scope.now.chain.now args.at) args.out.now args.from args.to (made [] 0 args.at (table args.pairs args.work.now)) _ _ loop.i
+          loop.p (place_after loop.full) loop.held.owner loop.held.pairs loop.invariant.0 _ part.ensures (sym is-short.ensures ∙ if1.false) _ record-length.ensures.0 _ _
+          _ _ _ _ _ least.ensures write-declaration.ensures (declaration-bound args.scope.now.op args.scope.now.card.now args.scope.now.root.now c.requires.0.small
+          (args.left - 1) (omega (arith, c.requires.2)) args.left c.requires.2 args.scope.now.chain.now args.at loop.i _
+          (next_fits args.scope.now.card.now (declaration_made args.scope.now.op args.scope.now.card.now args.scope.now.root.now
+          (module_made args.scope.now.op args.scope.now.card.now args.scope.now.root.now (args.left - 1)) args.left args.scope.now.chain.now args.at) args.out.now args.from
+          args.to (made [] 0 args.at (table args.pairs args.work.now)) _ _ loop.i loop.p (place_after loop.full) loop.held.owner loop.held.pairs loop.invariant.0 _
           part.ensures (sym is-short.ensures ∙ if1.false) _ record-length.ensures.0).0 (inside-card _ _ _
-          (next_fits args.card.now (declaration_made args.op args.card.now args.root.now
-          (module_made args.op args.card.now args.root.now (args.left - 1)) args.left args.chain.now args.at) args.out.now args.from
-          args.to (made [] 0 args.at (table args.pairs args.work.now)) _ _ loop.i loop.p loop.full loop.owner loop.mine loop.invariant.0 _
+          (next_fits args.scope.now.card.now (declaration_made args.scope.now.op args.scope.now.card.now args.scope.now.root.now
+          (module_made args.scope.now.op args.scope.now.card.now args.scope.now.root.now (args.left - 1)) args.left args.scope.now.chain.now args.at) args.out.now args.from
+          args.to (made [] 0 args.at (table args.pairs args.work.now)) _ _ loop.i loop.p (place_after loop.full) loop.held.owner loop.held.pairs loop.invariant.0 _
           part.ensures (sym is-short.ensures ∙ if1.false) _ record-length.ensures.0).1 c.requires.0.inside)) _ first-full.ensures),
       write-declaration.auto.work ∙ loop.invariant.2,
     )
@@ -364,9 +366,9 @@ write_declarations-returns t c =
     let args = c.args in
     let loop = c.loop-i in
     let loop-test = c.loop-i-test in
-    going_end args.card.now (declaration_made args.op args.card.now args.root.now (module_made args.op args.card.now args.root.now
-    (args.left - 1)) args.left args.chain.now args.at) args.out.now args.from args.to
-    (made [] 0 args.at (table args.pairs args.work.now)) _ _ loop.i loop.p loop.full loop.owner loop.mine loop.invariant.0
+    going_end args.scope.now.card.now (declaration_made args.scope.now.op args.scope.now.card.now args.scope.now.root.now (module_made args.scope.now.op args.scope.now.card.now args.scope.now.root.now
+    (args.left - 1)) args.left args.scope.now.chain.now args.at) args.out.now args.from args.to
+    (made [] 0 args.at (table args.pairs args.work.now)) _ _ loop.i loop.p (place_after loop.full) loop.held.owner loop.held.pairs loop.invariant.0
     (omega (arith, loop-test.false))
 
 pub write_inner-write_saved-requires : goal.write_inner-write_saved-requires
@@ -374,8 +376,8 @@ write_inner-write_saved-requires t c =
     let args = c.args in
     let is-small-beside = c.is_small_beside in
     let if1 = c.if-is_small_beside in
-    let small = small-known (module_made args.op args.card.now args.root.now args.left args.chain.now) args.at args.from args.to
-    args.owner args.pairs args.work.now _ is-small-beside.ensures if1.true in
+    let small = small-known (module_made args.scope.now.op args.scope.now.card.now args.scope.now.root.now args.left args.scope.now.chain.now) args.at args.from args.to
+    args.held.owner args.held.pairs args.work.now _ is-small-beside.ensures if1.true in
     (omega (arith, c.decreases), (c.requires.0, c.requires.1, small))
 
 pub write_inner-returns-then-is_small_beside : goal.write_inner-returns-then-is_small_beside
@@ -384,8 +386,8 @@ write_inner-returns-then-is_small_beside t c =
     let is-small-beside = c.is_small_beside in
     let if1 = c.if-is_small_beside in
     let write-saved = c.write_saved in
-    small-gives (module_made args.op args.card.now args.root.now args.left args.chain.now) args.at args.from args.to args.owner
-    args.pairs args.work.now _ is-small-beside.ensures if1.true _ _ _ _ _ _ _ write-saved.ensures
+    small-gives (module_made args.scope.now.op args.scope.now.card.now args.scope.now.root.now args.left args.scope.now.chain.now) args.at args.from args.to args.held.owner
+    args.held.pairs args.work.now _ is-small-beside.ensures if1.true _ _ _ _ _ _ _ write-saved.ensures
 
 pub write_inner-overflow_add-b : goal.write_inner-overflow_add-b
 write_inner-overflow_add-b t c =
@@ -408,8 +410,8 @@ write_inner-returns-then-has_room_beside t c =
     let own-words = c.own_words-k in
     let write-module = c.write_module-b in
     let lay-head = c.lay_head in
-    beside-gives (module_made args.op args.card.now args.root.now args.left args.chain.now) args.at args.from args.to args.owner
-    args.pairs args.work.now args.out.now _ least.ensures _ _ _ _ _ _ _ lay-head.ensures _ _ is-small-beside.ensures
+    beside-gives (module_made args.scope.now.op args.scope.now.card.now args.scope.now.root.now args.left args.scope.now.chain.now) args.at args.from args.to args.held.owner
+    args.held.pairs args.work.now args.out.now _ least.ensures _ _ _ _ _ _ _ lay-head.ensures _ _ is-small-beside.ensures
     has-room-beside.ensures if1.false if2.true _ own-words.ensures write-module.ensures
 
 pub write_inner-overflow_add-m : goal.write_inner-overflow_add-m
@@ -433,8 +435,8 @@ write_inner-returns t c =
     let if2 = c.if-has_room_beside in
     let write-module2 = c.write_module-m in
     let lay-head2 = c.lay_head-2 in
-    alone-gives (module_made args.op args.card.now args.root.now args.left args.chain.now) args.at args.from args.to args.owner
-    args.pairs args.work.now args.out.now _ least.ensures _ _ _ _ _ _ _ lay-head2.ensures _ _ is-small-beside.ensures
+    alone-gives (module_made args.scope.now.op args.scope.now.card.now args.scope.now.root.now args.left args.scope.now.chain.now) args.at args.from args.to args.held.owner
+    args.held.pairs args.work.now args.out.now _ least.ensures _ _ _ _ _ _ _ lay-head2.ensures _ _ is-small-beside.ensures
     has-room-beside.ensures if1.false if2.false write-module2.ensures
 
 pub write_mod-overflow_sub-to : goal.write_mod-overflow_sub-to
@@ -448,7 +450,7 @@ write_mod-overflow_sub-f t c =
     let rest = c.rest in
     let rest2 = c.rest-2 in
     let rest3 = c.rest-body in
-    body-inside args.op args.card.now args.root.now part.result.now content.result.now rest.result.now rest2.result.now
+    body-inside args.scope.now.op args.scope.now.card.now args.scope.now.root.now part.result.now content.result.now rest.result.now rest2.result.now
     rest3.result.now content.result.now content.ensures rest.ensures rest2.ensures rest3.ensures _ refl
 
 pub write_mod-overflow_add-f : goal.write_mod-overflow_add-f
@@ -458,7 +460,7 @@ write_mod-overflow_add-f t c =
     let content = c.content-c in
     omega (
       arith,
-      content-small args.card.now args.at args.to part.result.now content.result.now part.ensures content.ensures,
+      content-small args.scope.now.card.now args.at args.to part.result.now content.result.now part.ensures content.ensures,
       c.requires.0.inside,
       c.requires.0.small,
     )
@@ -473,7 +475,7 @@ write_mod-overflow_add-at-2 t c =
     let content = c.content-c in
     omega (
       arith,
-      content-small args.card.now args.at args.to part.result.now content.result.now part.ensures content.ensures,
+      content-small args.scope.now.card.now args.at args.to part.result.now content.result.now part.ensures content.ensures,
       c.requires.0.ordered,
       c.requires.0.inside,
       c.requires.0.small,
@@ -501,7 +503,7 @@ write_mod-write_body-b-requires t c =
         c.requires.2,
         omega (
           arith,
-          content-small args.card.now args.at args.to
+          content-small args.scope.now.card.now args.at args.to
               part.result.now content.result.now part.ensures content.ensures,
           c.requires.0.ordered,
           c.requires.0.inside,
@@ -519,10 +521,10 @@ write_mod-overflow_add-n t c =
     let write-body = c.write_body-b in
     omega (
       arith,
-      body-bound args.op args.card.now args.root.now c.requires.0.small (args.left - 1) (omega (arith, c.requires.2)) args.left
-          c.requires.2 args.chain.now args.at (args.at + 6 + (length content.result.now - length rest3.result.now)) args.to c.requires.0.inside
+      body-bound args.scope.now.op args.scope.now.card.now args.scope.now.root.now c.requires.0.small (args.left - 1) (omega (arith, c.requires.2)) args.left
+          c.requires.2 args.scope.now.chain.now args.at (args.at + 6 + (length content.result.now - length rest3.result.now)) args.to c.requires.0.inside
           (table args.pairs args.work.now),
-      content-small args.card.now args.at args.to part.result.now content.result.now part.ensures
+      content-small args.scope.now.card.now args.at args.to part.result.now content.result.now part.ensures
           content.ensures,
       write-body.ensures.length-is,
       c.requires.0.inside,
@@ -538,10 +540,10 @@ write_mod-overflow_add-n-2 t c =
     let write-body = c.write_body-b in
     omega (
       arith,
-      body-bound args.op args.card.now args.root.now c.requires.0.small (args.left - 1) (omega (arith, c.requires.2)) args.left
-          c.requires.2 args.chain.now args.at (args.at + 6 + (length content.result.now - length rest3.result.now)) args.to c.requires.0.inside
+      body-bound args.scope.now.op args.scope.now.card.now args.scope.now.root.now c.requires.0.small (args.left - 1) (omega (arith, c.requires.2)) args.left
+          c.requires.2 args.scope.now.chain.now args.at (args.at + 6 + (length content.result.now - length rest3.result.now)) args.to c.requires.0.inside
           (table args.pairs args.work.now),
-      content-small args.card.now args.at args.to part.result.now content.result.now part.ensures
+      content-small args.scope.now.card.now args.at args.to part.result.now content.result.now part.ensures
           content.ensures,
       write-body.ensures.length-is,
       c.requires.0.inside,
@@ -557,10 +559,10 @@ write_mod-overflow_add-result t c =
     let write-body = c.write_body-b in
     omega (
       arith,
-      body-bound args.op args.card.now args.root.now c.requires.0.small (args.left - 1) (omega (arith, c.requires.2)) args.left
-          c.requires.2 args.chain.now args.at (args.at + 6 + (length content.result.now - length rest3.result.now)) args.to c.requires.0.inside
+      body-bound args.scope.now.op args.scope.now.card.now args.scope.now.root.now c.requires.0.small (args.left - 1) (omega (arith, c.requires.2)) args.left
+          c.requires.2 args.scope.now.chain.now args.at (args.at + 6 + (length content.result.now - length rest3.result.now)) args.to c.requires.0.inside
           (table args.pairs args.work.now),
-      content-small args.card.now args.at args.to part.result.now content.result.now part.ensures
+      content-small args.scope.now.card.now args.at args.to part.result.now content.result.now part.ensures
           content.ensures,
       write-body.ensures.length-is,
       c.requires.0.inside,
@@ -580,8 +582,8 @@ write_mod-returns t c =
     let least = c.least-q in
     let write-body = c.write_body-b in
     let lay-head = c.lay_head in
-    mod-all args.op args.card.now args.root.now (module_made args.op args.card.now args.root.now (args.left - 1)) args.left
-    args.chain.now args.at args.to (table args.pairs args.work.now) args.out.now part.result.now part.ensures
+    mod-all args.scope.now.op args.scope.now.card.now args.scope.now.root.now (module_made args.scope.now.op args.scope.now.card.now args.scope.now.root.now (args.left - 1)) args.left
+    args.scope.now.chain.now args.at args.to (table args.pairs args.work.now) args.out.now part.result.now part.ensures
     content.result.now rest.result.now rest2.result.now rest3.result.now content.ensures rest.ensures rest2.ensures rest3.ensures _
     refl _ _ _ _ _ _ _ _ _ _ part2.ensures lay.ensures least.ensures write-body.ensures lay-head.ensures
 
@@ -594,7 +596,7 @@ write_module-returns-then-left-eq0 t c =
     let part = c.part-r in
     let if1 = c.if-left-eq0 in
     let lay = c.lay in
-    module-shallow args.op args.card.now args.root.now args.left args.chain.now args.at args.to args.owner args.pairs
+    module-shallow args.scope.now.op args.scope.now.card.now args.scope.now.root.now args.left args.scope.now.chain.now args.at args.to args.held.owner args.held.pairs
     args.work.now args.out.now part.result.now part.ensures if1.true _ lay.ensures
 
 pub write_module-returns-then-record_kind-ne96 : goal.write_module-returns-then-record_kind-ne96
@@ -605,7 +607,7 @@ write_module-returns-then-record_kind-ne96 t c =
     let record-kind = c.record_kind in
     let if2 = c.if-record_kind-ne96 in
     let lay2 = c.lay-then-record_kind-ne96 in
-    module-other args.op args.card.now args.root.now args.left args.chain.now args.at args.to args.owner args.pairs
+    module-other args.scope.now.op args.scope.now.card.now args.scope.now.root.now args.left args.scope.now.chain.now args.at args.to args.held.owner args.held.pairs
     args.work.now args.out.now part.result.now part.ensures if1.false _ record-kind.ensures.0 if2.true _ lay2.ensures
 
 pub write_module-extended-names-requires : goal.write_module-extended-names-requires
@@ -627,13 +629,10 @@ pub write_module-slice_bounds-inner-end : goal.write_module-slice_bounds-inner-e
 write_module-slice_bounds-inner-end t c =
     let extended = c.extended-names in
     let args = c.args in
-    sym (ap length extended.ensures ∙ length-append args.chain.now _)
+    sym (ap length extended.ensures ∙ length-append args.scope.now.chain.now _)
 
-pub write_module-overflow_add-result : goal.write_module-overflow_add-result
-write_module-overflow_add-result t c = omega (arith, c.requires.ordered, c.requires.inside, c.requires.small)
-
-pub write_module-returns-then-room-mine : goal.write_module-returns-then-room-mine
-write_module-returns-then-room-mine t c =
+pub write_module-returns-then-room-own : goal.write_module-returns-then-room-own
+write_module-returns-then-room-own t c =
     let args = c.args in
     let part = c.part-r in
     let if1 = c.if-left-eq0 in
@@ -641,12 +640,13 @@ write_module-returns-then-room-mine t c =
     let if2 = c.if-record_kind-ne96 in
     let name-place = c.name_place in
     let extended = c.extended-names in
-    let table_of = c.table_of-held in
+    let table_of = c.table_of-own in
     let room = c.room in
-    let if3 = c.if-room-mine in
-    module-full args.op args.card.now args.root.now args.left args.chain.now args.at args.to args.owner args.pairs
+    let if3 = c.if-room-own in
+    rw table_of.ensures.0
+    (module-full args.scope.now.op args.scope.now.card.now args.scope.now.root.now args.left args.scope.now.chain.now args.at args.to args.held.owner args.held.pairs
     args.work.now args.out.now part.result.now part.ensures if1.false _ record-kind.ensures.0 if2.false _ _ name-place.ensures
-    extended.ensures _ _ table_of.ensures.1 (rw room.ensures at if3.true)
+    extended.ensures _ _ table_of.ensures.1 (rw room.ensures at if3.true))
 
 pub write_module-write_mod-requires : goal.write_module-write_mod-requires
 write_module-write_mod-requires t c =
@@ -663,11 +663,11 @@ write_module-returns t c =
     let if2 = c.if-record_kind-ne96 in
     let name-place = c.name_place in
     let extended = c.extended-names in
-    let table_of = c.table_of-held in
+    let table_of = c.table_of-own in
     let room = c.room in
-    let if3 = c.if-room-mine in
+    let if3 = c.if-room-own in
     let write-mod = c.write_mod in
-    module-mod args.op args.card.now args.root.now args.left args.chain.now args.at args.to args.owner args.pairs
+    module-mod args.scope.now.op args.scope.now.card.now args.scope.now.root.now args.left args.scope.now.chain.now args.at args.to args.held.owner args.held.pairs
     args.work.now args.out.now part.result.now part.ensures if1.false _ record-kind.ensures.0 if2.false _ _ name-place.ensures
     extended.ensures _ _ table_of.ensures.1 (fits-room table_of.new.work _ _ room.ensures (omega (arith, if3.false))) _ _ _ _ _ _
     write-mod.ensures
@@ -704,7 +704,7 @@ write_saved-returns t c =
     let copy = c.copy in
     let write-module = c.write_module-m in
     let copy2 = c.copy-2 in
-    saved-gives (module_made args.op args.card.now args.root.now args.left args.chain.now) args.at args.from args.to 0
+    saved-gives (module_made args.scope.now.op args.scope.now.card.now args.scope.now.root.now args.left args.scope.now.chain.now) args.at args.from args.to 0
     args.pairs args.work.now args.out.now _ least.ensures _ _ _ _ _ _ _ lay-head.ensures c.requires.2 _ copy.ensures
     write-module.ensures (module-keeps _ _ _ _ _ _ _ _ _ _ _ _ _ _ _ write-module.ensures) _ copy2.ensures
 

@@ -5,6 +5,7 @@ use Prim.Native.Nat.{◌+◌, ◌*◌, ◌-◌}
 use lib.ListN.{length}
 use Rattle.adding.specs.Adds.{table}
 use Rattle.modules.specs.Modules.{made, declaration_made, module_made}
+use Rattle.writing.specs.Wrote.{place_after}
 use Rattle.writing.proofs.Going.{Going}
 use Rattle.writing.proofs.+write_body_write_declaration_write_declarations_write_inner_write_mod_write_module_write_saved.Given as goal
 
@@ -31,8 +32,8 @@ decreases-write_saved l = 7 * l.left + 6
 
 abbrev pub invariant-write_declarations-loop-i : goal.invariant-write_declarations-loop-i
 invariant-write_declarations-loop-i l =
-    Going l.card (declaration_made l.op l.card l.root (module_made l.op l.card l.root (l.left - 1)) l.left l.chain l.at) l.initial.out l.from l.to (made [] 0 l.at (table l.pairs l.initial.work)) l.out l.work l.i l.p
-    l.full l.owner l.mine
+    Going l.scope.card.now (declaration_made l.scope.op l.scope.card.now l.scope.root.now (module_made l.scope.op l.scope.card.now l.scope.root.now (l.left - 1)) l.left l.scope.chain.now l.at) l.initial.out l.from l.to (made [] 0 l.at (table l.pairs l.initial.work)) l.out l.work l.i l.p
+    (place_after l.full) l.held.owner l.held.pairs
     × (length l.out ≡ length l.initial.out) × (length l.work ≡ length l.initial.work)
 
 abbrev pub decreases-write_declarations-loop-i : goal.decreases-write_declarations-loop-i

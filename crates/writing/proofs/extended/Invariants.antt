@@ -7,6 +7,3 @@ use Rattle.writing.proofs.extended.Given as goal
 
 abbrev pub invariant-loop-i : goal.invariant-loop-i
 invariant-loop-i l = Extending l.chain l.names l.i × (l.n ≡ length l.chain)
-
-abbrev pub decreases-loop-i : goal.decreases-loop-i
-decreases-loop-i l = l.n - l.i

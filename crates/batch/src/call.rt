@@ -40,23 +40,41 @@ impl Call<'_> {
         Ok(Listed { length, entries: 0 })
     }
 
-    // Whether it answers the same with work words of its own, where it must, and leaves as long an out buffer and list the same. What is answered with
-    // 2048 work words may be answered otherwise with more: 8, where these have room for more pairs. The rooms are no part of the caller's frame, which
-    // has large ones of its own.
+    // Whether it answers the same with work words of its own, where it must, and leaves the out buffer and the list of own, as long as those lent, the same.
+    // What is answered with 2048 work words may be answered otherwise with more: 8, where these have room for more pairs.
+    fn is_same_in(&self, r: Result<Listed, Refusal>, lent: &Lent, own: &mut Lent) -> bool {
+        let s = self.alone(own);
+        2052 <= lent.work.len() && matches!(s, Err(Refusal::FullTable(_)))
+            || r == s && &*lent.out == &*own.out && &*lent.list == &*own.list
+    }
+
+    // The same in this out buffer and a list. Rooms are no part of a frame that has large ones of its own, or that has no need of them.
     #[inline(never)]
-    fn is_same_alone(&self, r: Result<Listed, Refusal>, lent: &Lent) -> bool {
-        let mut out: [u8; 2000000] = test_input::room();
+    fn is_same_listed(&self, r: Result<Listed, Refusal>, lent: &Lent, out: &mut [u8]) -> bool {
         let mut list: [u32; 65536] = test_input::room();
-        let n = lent.out.len().min(out.len());
         let k = lent.list.len().min(list.len());
         let mut own = Lent {
-            out: &mut out[..n],
+            out,
             work: &mut [],
             list: &mut list[..k],
         };
-        let s = self.alone(&mut own);
-        2052 <= lent.work.len() && matches!(s, Err(Refusal::FullTable(_)))
-            || r == s && &*lent.out == &*own.out && &*lent.list == &*own.list
+        self.is_same_in(r, lent, &mut own)
+    }
+
+    // The same in an out buffer and, where it is listed, a list.
+    #[inline(never)]
+    fn is_same_alone(&self, r: Result<Listed, Refusal>, lent: &Lent) -> bool {
+        let mut out: [u8; 2000000] = test_input::room();
+        let n = lent.out.len().min(out.len());
+        if self.is_listed {
+            return self.is_same_listed(r, lent, &mut out[..n]);
+        }
+        let mut own = Lent {
+            out: &mut out[..n],
+            work: &mut [],
+            list: &mut [],
+        };
+        self.is_same_in(r, lent, &mut own)
     }
 
     // The answer, where the lent memory is as it promises.
@@ -85,7 +103,7 @@ impl Call<'_> {
                 }
                 rt.write_all(self.end)
             }
-            Err(refusal) => test_input::say_refusal(rt, refusal),
+            Err(refusal) => test_input::say_refusal(rt, Err(refusal)),
         }
     }
 }

@@ -13,7 +13,7 @@ ghost use Rattle.std.specs.Prelude.{◌≡◌, ◌≤◌, length, IfOk};
 
 use call::Call;
 use memory::Lent;
-use question::Form;
+use question::{Form, Question};
 use std::io;
 use std::io::Read;
 
@@ -28,13 +28,23 @@ fn asked(line: &[u8]) -> &[u8] {
     }
 }
 
-// One case, with so much lent, or all there is.
-fn case(rt: &impl Print, line: &[u8], lent: &mut Lent) -> io::Result<()> {
-    let (form, fields) = Form::of(asked(line));
-    let Some(question) = form.read(fields) else {
-        return rt.write_all(form.hint());
+// The answer where a list of so many words is lent, or all there is. Its room is no part of the frame of a case without.
+#[inline(never)]
+fn answer_listed(rt: &impl Print, call: &Call, part: &mut Lent, places: usize) -> io::Result<()> {
+    // a card's entries take fewer words than that
+    let mut list: [u32; 65536] = test_input::room();
+    let k = places.min(list.len());
+    let mut listed = Lent {
+        out: &mut *part.out,
+        work: &mut *part.work,
+        list: &mut list[..k],
     };
-    // Room for the bytes that any field of a line says.
+    call.say_answer(rt, &mut listed)
+}
+
+// What a line of this form asks, with so much lent, or all there is. The rooms are for the bytes that any field of a line says: a line that is no case has no need of them.
+#[inline(never)]
+fn answer(rt: &impl Print, form: Form, question: &Question, lent: &mut Lent) -> io::Result<()> {
     let mut root: [u8; 131072] = test_input::room();
     let mut card: [u8; 131072] = test_input::room();
     let n = test_text::decode(question.root, &mut root);
@@ -48,13 +58,24 @@ fn case(rt: &impl Print, line: &[u8], lent: &mut Lent) -> io::Result<()> {
     };
     let bytes = question.bytes.min(lent.out.len());
     let words = question.words.min(lent.work.len());
-    let places = question.places.unwrap_or(0).min(lent.list.len());
     let mut part = Lent {
         out: &mut lent.out[..bytes],
         work: &mut lent.work[..words],
-        list: &mut lent.list[..places],
+        list: &mut [],
     };
-    call.say_answer(rt, &mut part)
+    match question.places {
+        Some(places) => answer_listed(rt, &call, &mut part, places),
+        None => call.say_answer(rt, &mut part),
+    }
+}
+
+// One case.
+fn case(rt: &impl Print, line: &[u8], lent: &mut Lent) -> io::Result<()> {
+    let (form, fields) = Form::of(asked(line));
+    match form.read(fields) {
+        Some(question) => answer(rt, form, &question, lent),
+        None => rt.write_all(form.hint()),
+    }
 }
 
 // Answers the whole lines among so many bytes of text and brings the rest to the front; answers how many bytes that are. Where the rest fills all of the
@@ -68,13 +89,15 @@ fn take_lines(
     requires { all ≤ 262144 }
     ensures { IfOk result (λ n. n ≤ 262143) }
 {
-    let last = text[..all].iter().rposition(|b| *b == b'\n');
-    let done = last.map_or(0, |last| last + 1);
-    for line in text[..done].split_inclusive(|b| *b == b'\n') {
-        case(rt, line.strip_suffix(b"\n").unwrap_or(line), lent)?;
+    let mut rest = &text[..all];
+    let mut line = test_text::line_at(rest, 0);
+    while line.len() < rest.len() {
+        case(rt, line, lent)?;
+        rest = test_text::past(rest, line.len());
+        line = test_text::line_at(rest, 0);
     }
-    text.copy_within(done..all, 0);
-    let left = all - done;
+    let left = rest.len();
+    text.copy_within(all - left..all, 0);
     if left < 262144 {
         return Ok(left);
     }
@@ -119,12 +142,10 @@ fn run(rt: &(impl Print + Eprint), stdin: &mut impl Read, lent: &mut Lent) -> io
 fn main(rt: HostRuntime) -> io::Result<()> {
     let mut out: [u8; 2000000] = test_input::room();
     let mut work: [u32; 131072] = test_input::room();
-    // a card's entries take fewer words than that
-    let mut list: [u32; 65536] = test_input::room();
     let mut lent = Lent {
         out: &mut out,
         work: &mut work,
-        list: &mut list,
+        list: &mut [],
     };
     run(&rt, &mut rt.reader(), &mut lent)
 }

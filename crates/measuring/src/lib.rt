@@ -2,8 +2,9 @@
 // leaves the buffer. What is answered is how long the output is, written or not, or the place of the first module whose table is full.
 #![tactic(auto)]
 
-ghost use Rattle.std.specs.Prelude.{◌≡◌};
+ghost use Rattle.std.specs.Prelude.{◌≡◌, false};
 ghost use Rattle.adding.specs.Adds.{table};
+ghost use Rattle.fitting.specs.Fitting.{surely_fits};
 ghost use Rattle.measuring.specs.Measured.{stays_whole, output, direct, in_two, whole_output};
 
 use answers::{Answer, Refusal};
@@ -21,7 +22,27 @@ fn stays_whole(card: &[u8]) -> bool
     reader::record_kind(card) != 0x60
 }
 
-// Without measuring, given whose table the words hold. A card that stays as it is goes round no ring.
+// By the walk, given whose table the words hold. Its frame is apart: a card that stays as it is has no need of it.
+#[inline(never)]
+fn walk_at_once(
+    op: Shortening,
+    card: &[u8],
+    root: &[u8],
+    out: &mut [u8],
+    work: &mut [u32],
+    held: Held,
+) -> Answer
+    ensures { output result out.new work.new
+        ≡ direct op card.now root.now held.owner (table held.pairs work.old) out.old }
+{
+    let w = writing::write_card(op, card, root, out, work, held);
+    if let Some(place) = w.full {
+        return Err(Refusal::FullTable(place));
+    }
+    Ok(w.length)
+}
+
+// Without measuring. A card that stays as it is goes round no ring.
 fn write_at_once(
     op: Shortening,
     card: &[u8],
@@ -37,11 +58,7 @@ fn write_at_once(
         laying::lay(card, out, 0);
         return Ok(card.len());
     }
-    let w = writing::write_card(op, card, root, out, work, held);
-    if let Some(place) = w.full {
-        return Err(Refusal::FullTable(place));
-    }
-    Ok(w.length)
+    walk_at_once(op, card, root, out, work, held)
 }
 
 // A card without nested modules is still collected once: the words hold its table when it is written.
@@ -69,13 +86,18 @@ fn measure_first(
 }
 
 // The outermost module's table is collected first: its uses are then known, and whether the output surely has room. The same walk adds up what else can grow.
-pub fn write(op: Shortening, card: &[u8], root: &[u8], out: &mut [u8], work: &mut [u32]) -> Answer
+#[inline(never)]
+fn survey_first(
+    op: Shortening,
+    card: &[u8],
+    root: &[u8],
+    out: &mut [u8],
+    work: &mut [u32],
+) -> Answer
+    requires { surely_fits op card.now out.old work.old ≡ false }
     ensures { output result out.new work.new
         ≡ whole_output op card.now root.now work.old out.old }
 {
-    if fitting::surely_fits(op, card, out, work) {
-        return write_at_once(op, card, root, out, work, tables::NONE);
-    }
     let chain: [usize; 1] = [fields::name_place(card, 0)];
     let scope = Scope {
         op,
@@ -93,4 +115,16 @@ pub fn write(op: Shortening, card: &[u8], root: &[u8], out: &mut [u8], work: &mu
         return write_at_once(op, card, root, out, work, held);
     }
     measure_first(op, card, root, out, work, held)
+}
+
+// A card that surely fits is written at once. What others need is no part of its frame, nor this a part of its callers'.
+#[inline(never)]
+pub fn write(op: Shortening, card: &[u8], root: &[u8], out: &mut [u8], work: &mut [u32]) -> Answer
+    ensures { output result out.new work.new
+        ≡ whole_output op card.now root.now work.old out.old }
+{
+    if fitting::surely_fits(op, card, out, work) {
+        return write_at_once(op, card, root, out, work, tables::NONE);
+    }
+    survey_first(op, card, root, out, work)
 }

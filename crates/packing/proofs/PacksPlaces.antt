@@ -25,8 +25,7 @@ use Rattle.operation.specs.declared.Pass.{Pass}
 use Rattle.operation.specs.Passes.{repeats, asked}
 use Rattle.answers.specs.declared.Refusal.{Refusal}
 use Rattle.placing.specs.declared.Listed.{Listed}
-use Rattle.placing.specs.Placing.{answer_in, entries_in}
-use Rattle.shortening_places.specs.Placed.{Promise, Answered}
+use Rattle.shortening_places.specs.Placed.{answer_in, entries_in, Promise, Answered}
 use Rattle.shortening_places.proofs.Kept.{answered}
 use Rattle.packing.proofs.Plain.{value-small}
 use Rattle.packing.specs.PackedPlaces.{PackedListing, PackedPlaces}

@@ -3,7 +3,7 @@
 
 ghost use Rattle.std.specs.Prelude.{◌≡◌, cond, ◌<◌, ◌^◌, eqb};
 ghost use Rattle.answers.specs.Answers.{number, packed};
-ghost use Rattle.placing.specs.Placing.{answer_in, entries_in};
+ghost use Rattle.shortening_places.specs.Placed.{answer_in, entries_in};
 ghost use Rattle.packing.specs.Packed.{PackedAlone, PackedPromise};
 ghost use Rattle.packing.specs.PackedPlaces.{PackedPlacesAlone, PackedPlaces};
 

@@ -22,15 +22,6 @@ abbrev pub listed : Answer → ℕ → Result Listed Refusal
 listed (Ok length) entries = Ok (record { length = length; entries = entries })
 listed (Err a) entries = Err a
 
--- and back: a refusal has no entries
-abbrev pub answer_in : Result Listed Refusal → Answer
-answer_in (Ok l) = Ok l.length
-answer_in (Err a) = Err a
-
-abbrev pub entries_in : Result Listed Refusal → ℕ
-entries_in (Ok l) = l.entries
-entries_in (Err a) = 0
-
 -- what is answered, and what the out buffer, the words and the list then hold
 pub record Placing : Type 0 where
   pub answer : Result Listed Refusal

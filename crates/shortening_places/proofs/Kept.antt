@@ -25,9 +25,9 @@ use Rattle.work.proofs.Lent.{most, words-all}
 use Rattle.chains.specs.Chains.{room}
 use Rattle.answers.specs.declared.Refusal.{Refusal}
 use Rattle.placing.specs.declared.Listed.{Listed}
-use Rattle.placing.specs.Placing.{answer_in, entries_in, placing, placed}
+use Rattle.placing.specs.Placing.{placing, placed}
 use Rattle.placed.proofs.Sound.{Whole, Places, FullAt, Result as Sound, placed-sound}
-use Rattle.shortening_places.specs.Placed.{Promise, Answered}
+use Rattle.shortening_places.specs.Placed.{answer_in, entries_in, Promise, Answered}
 
 -- what is answered is the definition's, so it keeps the promise
 pub promised : (pass : Pass) (card root out : Bytes) (work list : List ℕ) (r : Result Listed Refusal) (out' : Bytes) (work' list' : List ℕ) → ((i : ℕ) → get_or card i 0 < 256)

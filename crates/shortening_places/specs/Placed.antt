@@ -1,7 +1,8 @@
 -- What the public call with a lent list promises (02, request 1), of either pass: demands 1 and 2 as one equation with `shorten_listing` (where the pass is
 -- Straight, demand 2's tree is that of 02, request 2), demand 3, and that the list is exact.
 -- Assumes nothing: these are definitions.
-use Rattle.std.specs.Prelude.{◌≡◌, List, ℕ, ◌*◌, ◌≤◌, length, take, replicate, Result, Ok}
+use Rattle.std.specs.Prelude.{◌≡◌, List, ℕ, ◌*◌, ◌≤◌, length, take, replicate, Result, Ok, Err}
+use Rattle.answers.specs.Answers.{Answer}
 use Rattle.answers.specs.declared.Refusal.{Refusal}
 use Rattle.wire.specs.Numbers.{Bytes}
 use Rattle.size.specs.Bound.{times}
@@ -11,7 +12,15 @@ use Rattle.places.specs.Spots.{ListExact}
 use Rattle.operation.specs.declared.Pass.{Pass}
 use Rattle.operation.specs.Passes.{asked}
 use Rattle.placing.specs.declared.Listed.{Listed}
-use Rattle.placing.specs.Placing.{answer_in, entries_in}
+
+-- the answer of a call with a list, and how many entries the list has: a refusal has none
+abbrev pub answer_in : Result Listed Refusal → Answer
+answer_in (Ok l) = Ok l.length
+answer_in (Err a) = Err a
+
+abbrev pub entries_in : Result Listed Refusal → ℕ
+entries_in (Ok l) = l.entries
+entries_in (Err a) = 0
 
 pub record Promise (pass : Pass) (card root out : Bytes) (work list : List ℕ) (r : Result Listed Refusal) (out' : Bytes) (work' list' : List ℕ) : Type 0 where
   -- demands 1 and 2: whatever is lent, the answer, the number of entries, the out bytes, the work words and the list are the definition's

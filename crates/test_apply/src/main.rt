@@ -59,7 +59,7 @@ fn shorten(rt: &impl Print, card: &[u8], root: &[u8]) -> io::Result<()> {
             say_record(rt, wire::part(&out, 0, n), 100)?;
             rt.write_all(b"\n")
         }
-        Err(refusal) => test_input::say_refusal(rt, refusal),
+        refusal => test_input::say_refusal(rt, refusal),
     }
 }
 
@@ -72,11 +72,19 @@ fn case(rt: &impl Print, line: &[u8]) -> io::Result<()> {
     }
 }
 
+// The lines of the text, one after the other.
+fn lines(rt: &impl Print, text: &[u8]) -> io::Result<()> {
+    let mut rest = text;
+    while !rest.is_empty() {
+        let line = test_text::line_at(rest, 0);
+        case(rt, line)?;
+        rest = test_text::past(rest, line.len());
+    }
+    Ok(())
+}
+
 fn main(rt: HostRuntime) -> io::Result<()> {
     let mut text: test_input::Text = test_input::room();
     let n = test_input::read_text(&rt, &mut text);
-    for line in text[..n].split_inclusive(|b| *b == b'\n') {
-        case(&rt, line.strip_suffix(b"\n").unwrap_or(line))?;
-    }
-    Ok(())
+    lines(&rt, &text[..n])
 }

@@ -117,7 +117,7 @@ fn collect_sound(rt: &impl Print, card: &[u8], root: &[u8], work: &mut [u32]) ->
     };
     let n = collecting::collect_module(&scope, 0, 48, table);
     if 512 < n {
-        return test_input::say_refusal(rt, Refusal::FullTable(0));
+        return test_input::say_refusal(rt, Err(Refusal::FullTable(0)));
     }
     say_table(rt, &scope, table, n)
 }
@@ -126,7 +126,7 @@ fn collect_sound(rt: &impl Print, card: &[u8], root: &[u8], work: &mut [u32]) ->
 fn collect(rt: &impl Print, card: &[u8], root: &[u8], work: &mut [u32]) -> io::Result<()> {
     match admission::admit(card, root, work.len()) {
         Ok(()) => collect_sound(rt, card, root, work),
-        Err(refusal) => test_input::say_refusal(rt, refusal),
+        Err(refusal) => test_input::say_refusal(rt, Err(refusal)),
     }
 }
 
@@ -159,11 +159,19 @@ fn case(rt: &impl Print, line: &[u8]) -> io::Result<()> {
     }
 }
 
+// The lines of the text, one after the other.
+fn lines(rt: &impl Print, text: &[u8]) -> io::Result<()> {
+    let mut rest = text;
+    while !rest.is_empty() {
+        let line = test_text::line_at(rest, 0);
+        case(rt, line)?;
+        rest = test_text::past(rest, line.len());
+    }
+    Ok(())
+}
+
 fn main(rt: HostRuntime) -> io::Result<()> {
     let mut text: test_input::Text = test_input::room();
     let n = test_input::read_text(&rt, &mut text);
-    for line in text[..n].split_inclusive(|b| *b == b'\n') {
-        case(&rt, line.strip_suffix(b"\n").unwrap_or(line))?;
-    }
-    Ok(())
+    lines(&rt, &text[..n])
 }

@@ -4,7 +4,7 @@
 ghost use Rattle.std.specs.Prelude.{◌≡◌, ◌≤◌, length};
 ghost use Rattle.std.specs.Counts.{IsPrefixLen};
 
-use answers::Refusal;
+use answers::Answer;
 use std::io;
 use std::io::Read;
 
@@ -74,10 +74,6 @@ pub fn say_bytes(rt: &impl Print, s: &[u8]) -> io::Result<()> {
 }
 
 // A refusal: its number and its place.
-pub fn say_refusal(rt: &impl Print, refusal: Refusal) -> io::Result<()> {
-    println!(rt;
-        "{} {}",
-        answers::number(Err(refusal)),
-        answers::value(Err(refusal))
-    )
+pub fn say_refusal(rt: &impl Print, a: Answer) -> io::Result<()> {
+    println!(rt; "{} {}", answers::number(a), answers::value(a))
 }

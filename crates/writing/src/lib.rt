@@ -22,18 +22,17 @@ pub struct Piece {
     pub held: Held,
 }
 
-// The places of names, with one more: one by one, since copy_from_slice needs memmove (`work::copy`).
-fn extended(chain: &[usize], place: usize) -> [usize; 48]
+// Puts the places of names, and one more, at the front of an array that is lent, since one that is answered is copied: one by one, since copy_from_slice
+// needs memmove (`work::copy`).
+fn extend(chain: &[usize], place: usize, names: &mut [usize; 48])
     requires { length chain.now < 48 }
-    ensures { take (length chain.now + 1) result ≡ chain.now ++ (place ∷ []) }
+    ensures { take (length chain.now + 1) names.new ≡ chain.now ++ (place ∷ []) }
 {
-    let mut names: [usize; 48] = [0; 48];
     let n = chain.len();
     for i in 0..n {
         names[i] = chain[i];
     }
     names[n] = place;
-    names
 }
 
 // The first full table of two pieces.
@@ -75,7 +74,8 @@ fn write_module(
             held,
         };
     }
-    let names = extended(scope.chain, fields::name_place(scope.card, at));
+    let mut names: [usize; 48] = [0; 48];
+    extend(scope.chain, fields::name_place(scope.card, at), &mut names);
     let n = scope.chain.len() + 1;
     let inner = Scope {
         chain: &names[..n],

@@ -1,9 +1,6 @@
 -- `measuring::write_at_once` meets its contract. Assumes nothing.
-use native.Mathlib.Omega.{arith}
-use mathlib.Core.Path.{ap}
-use Rattle.writing.specs.Wrote.{place_after}
 use Rattle.adding.specs.Adds.{table}
-use Rattle.measuring.proofs.Tests.{direct-whole, direct-full, direct-gives}
+use Rattle.measuring.proofs.Tests.{direct-whole}
 use Rattle.measuring.proofs.write_at_once.Goals as goal
 
 pub returns-then-stays_whole : goal.returns-then-stays_whole
@@ -14,16 +11,3 @@ returns-then-stays_whole c =
     let lay = c.lay in
     direct-whole args.card.now stays-whole.ensures if1.true args.op args.root.now args.held.owner (table args.held.pairs args.work.now)
     args.out.now lay.ensures
-
-pub returns-in-Some : goal.returns-in-Some
-returns-in-Some c =
-    let args = c.args in
-    let write-card = c.write_card-w in
-    direct-full args.op args.card.now args.root.now args.held.owner (table args.held.pairs args.work.now) write-card.ensures (ap place_after c.in-Some.is)
-
-pub returns : goal.returns
-returns c =
-    let args = c.args in
-    let write-card = c.write_card-w in
-    direct-gives args.op args.card.now args.root.now args.held.owner (table args.held.pairs args.work.now) write-card.ensures
-    (ap place_after c.in_default.is)

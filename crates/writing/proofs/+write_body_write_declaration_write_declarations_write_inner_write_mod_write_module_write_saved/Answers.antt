@@ -610,8 +610,8 @@ write_module-returns-then-record_kind-ne96 t c =
     module-other args.scope.now.op args.scope.now.card.now args.scope.now.root.now args.left args.scope.now.chain.now args.at args.to args.held.owner args.held.pairs
     args.work.now args.out.now part.result.now part.ensures if1.false _ record-kind.ensures.0 if2.true _ lay2.ensures
 
-pub write_module-extended-names-requires : goal.write_module-extended-names-requires
-write_module-extended-names-requires t c =
+pub write_module-extend-requires : goal.write_module-extend-requires
+write_module-extend-requires t c =
     let if1 = c.if-left-eq0 in
     names-fit _ _ _ _ _ c.requires if1.false
 
@@ -627,9 +627,9 @@ write_module-slice_bounds-names-end t c =
 
 pub write_module-slice_bounds-inner-end : goal.write_module-slice_bounds-inner-end
 write_module-slice_bounds-inner-end t c =
-    let extended = c.extended-names in
+    let extend = c.extend in
     let args = c.args in
-    sym (ap length extended.ensures ∙ length-append args.scope.now.chain.now _)
+    sym (ap length extend.ensures ∙ length-append args.scope.now.chain.now _)
 
 pub write_module-returns-then-room-own : goal.write_module-returns-then-room-own
 write_module-returns-then-room-own t c =
@@ -639,20 +639,20 @@ write_module-returns-then-room-own t c =
     let record-kind = c.record_kind in
     let if2 = c.if-record_kind-ne96 in
     let name-place = c.name_place in
-    let extended = c.extended-names in
+    let extend = c.extend in
     let table_of = c.table_of-own in
     let room = c.room in
     let if3 = c.if-room-own in
     rw table_of.ensures.0
     (module-full args.scope.now.op args.scope.now.card.now args.scope.now.root.now args.left args.scope.now.chain.now args.at args.to args.held.owner args.held.pairs
     args.work.now args.out.now part.result.now part.ensures if1.false _ record-kind.ensures.0 if2.false _ _ name-place.ensures
-    extended.ensures _ _ table_of.ensures.1 (rw room.ensures at if3.true))
+    extend.ensures _ _ table_of.ensures.1 (rw room.ensures at if3.true))
 
 pub write_module-write_mod-requires : goal.write_module-write_mod-requires
 write_module-write_mod-requires t c =
     let if1 = c.if-left-eq0 in
-    let extended = c.extended-names in
-    (omega (arith, c.decreases), (within-inner _ _ _ _ _ c.requires if1.false _ _ extended.ensures, omega (arith, if1.false), omega (arith, c.requires.shallow)))
+    let extend = c.extend in
+    (omega (arith, c.decreases), (within-inner _ _ _ _ _ c.requires if1.false _ _ extend.ensures, omega (arith, if1.false), omega (arith, c.requires.shallow)))
 
 pub write_module-returns : goal.write_module-returns
 write_module-returns t c =
@@ -662,14 +662,14 @@ write_module-returns t c =
     let record-kind = c.record_kind in
     let if2 = c.if-record_kind-ne96 in
     let name-place = c.name_place in
-    let extended = c.extended-names in
+    let extend = c.extend in
     let table_of = c.table_of-own in
     let room = c.room in
     let if3 = c.if-room-own in
     let write-mod = c.write_mod in
     module-mod args.scope.now.op args.scope.now.card.now args.scope.now.root.now args.left args.scope.now.chain.now args.at args.to args.held.owner args.held.pairs
     args.work.now args.out.now part.result.now part.ensures if1.false _ record-kind.ensures.0 if2.false _ _ name-place.ensures
-    extended.ensures _ _ table_of.ensures.1 (fits-room table_of.new.work _ _ room.ensures (omega (arith, if3.false))) _ _ _ _ _ _
+    extend.ensures _ _ table_of.ensures.1 (fits-room table_of.new.work _ _ room.ensures (omega (arith, if3.false))) _ _ _ _ _ _
     write-mod.ensures
 
 pub write_saved-overflow_sub-k : goal.write_saved-overflow_sub-k

@@ -1,11 +1,12 @@
--- `writing::extended` meets its contract: place by place, by the laws of Chain. Assumes nothing.
+-- `writing::extend` meets its contract: place by place, by the laws of Chain. Assumes nothing.
 use mathlib.Core.Path.{refl}
 use native.Mathlib.Omega.{arith}
+use Rattle.std.proofs.Common.{rules}
 use Rattle.writing.proofs.Chain.{extending-none, extending-next, extending-all}
-use Rattle.writing.proofs.extended.Goals as goal
+use Rattle.writing.proofs.extend.Goals as goal
 
 pub loop-i-init : goal.loop-i-init
-loop-i-init c = (extending-none _ _ refl, refl)
+loop-i-init c = (extending-none _ _ (search rules), refl)
 
 pub loop-i-preserved : goal.loop-i-preserved
 loop-i-preserved c =

@@ -15,22 +15,24 @@ impl Mark for u8 {
 
 impl Mark for u32 {
     fn mark(i: usize) -> u32 {
-        (i % 1000003) as u32 + 1
+        (i % (1 << 31)) as u32 + 1
     }
 }
 
 fn fill<T: Mark>(lent: &mut [T]) {
-    for (i, x) in lent.iter_mut().enumerate() {
-        *x = T::mark(i);
+    for i in 0..lent.len() {
+        lent[i] = T::mark(i);
     }
 }
 
 // Whether it is as it was filled, from a place on.
 fn is_left<T: Mark>(lent: &[T], from: usize) -> bool {
-    lent.iter()
-        .enumerate()
-        .skip(from)
-        .all(|(i, x)| *x == T::mark(i))
+    for i in from..lent.len() {
+        if lent[i] != T::mark(i) {
+            return false;
+        }
+    }
+    true
 }
 
 // What a call is lent: the out buffer, the work words and a list of places.

@@ -10,7 +10,7 @@ use lib.Seq.{drop-cons, drop-drop, take-suc, append_snoc, set_at, length-take-le
 use Rattle.wire.specs.Numbers.{Bytes}
 use Rattle.wire.proofs.Slices.{tail-is}
 use Rattle.test_text.specs.Text.{hex_value, hex_pair, hex_first, hex_onto, hex_bytes, Decoded, is_digit, is_value, decimal_of}
-use Rattle.std.proofs.Common.{Option, None, Some, cond, leb, ltb}
+use Rattle.std.proofs.Common.{Option, None, Some, Bool, true, false, cond, leb, ltb}
 use Rattle.std.proofs.lemmas.List.{at_drop_more, at_drop_all}
 
 -- ---- decimal digits
@@ -24,6 +24,36 @@ decimal_digit s n i d h e = rw (at_drop_more (decimal_of n) s i 0 h, e)
 pub decimal_stop : (s : Bytes) (n i : ℕ) → i < length s → hex_value (get_or s i 0) ≡ None → decimal_of n (drop i s) ≡ n
 unfolding decimal_of is_digit is_value
 decimal_stop s n i h e = rw (at_drop_more (decimal_of n) s i 0 h, e)
+
+-- the same by a byte's value where that is under 10, as decimal_value has it
+digit_under : (b : Bool) (v d : ℕ) → ltb v 10 ≡ b → cond b (Some v) None ≡ Some d → (Some v ≡ Some d) × (ltb d 10 ≡ true)
+digit_under false v d k e = absurd (cc)
+digit_under true v d k e = let j : v ≡ d = cc in (e, rw j at k)
+
+digit_over : (b : Bool) (v : ℕ) → cond b (Some v) None ≡ None → b ≡ false
+digit_over false v e = refl
+digit_over true v e = absurd (cc)
+
+value_under : (v : Option ℕ) (d : ℕ) → cond (is_value 10 v) v None ≡ Some d → (v ≡ Some d) × (ltb d 10 ≡ true)
+unfolding is_value
+value_under None d e = absurd (cc)
+value_under (Some v) d e = digit_under (ltb v 10) v d refl e
+
+pub decimal_more : (s : Bytes) (n i d : ℕ) → i < length s → cond (is_digit 10 (get_or s i 0)) (hex_value (get_or s i 0)) None ≡ Some d
+    → decimal_of n (drop i s) ≡ cond (leb 4294967296 n) n (decimal_of (n * 10 + d) (drop (i + 1) s))
+unfolding is_digit
+decimal_more s n i d h e = let u = value_under (hex_value (get_or s i 0)) d e in rw (decimal_digit s n i d h u.0, u.1)
+
+over_by : (s : Bytes) (n i : ℕ) → i < length s → (v : Option ℕ) → hex_value (get_or s i 0) ≡ v → cond (is_value 10 v) v None ≡ None
+    → decimal_of n (drop i s) ≡ n
+unfolding is_value
+over_by s n i h None k e = decimal_stop s n i h k
+over_by s n i h (Some d) k e = rw (decimal_digit s n i d h k, digit_over (ltb d 10) d e)
+
+pub decimal_over : (s : Bytes) (n i : ℕ) → i < length s → cond (is_digit 10 (get_or s i 0)) (hex_value (get_or s i 0)) None ≡ None
+    → decimal_of n (drop i s) ≡ n
+unfolding is_digit
+decimal_over s n i h e = over_by s n i h (hex_value (get_or s i 0)) refl e
 
 pub decimal_end : (s : Bytes) (n i : ℕ) → length s ≤ i → decimal_of n (drop i s) ≡ n
 unfolding decimal_of

@@ -2,7 +2,7 @@
 // line is a case. Nothing is required: where a digit is none, or there is no room, decoding stops there.
 #![tactic(auto)]
 
-ghost use Rattle.std.specs.Prelude.{◌≡◌, ◌+◌, ◌-◌, ◌≤◌, ◌<◌, length, take, drop, IfSome};
+ghost use Rattle.std.specs.Prelude.{◌≡◌, ◌+◌, ◌-◌, ◌≤◌, ◌<◌, length, take, drop, cond, None, is_some, IfSome};
 ghost use Rattle.test_text.specs.Text.{FirstAt, until as text_until, beyond as text_beyond, hex_value, hex_first, Decoded, decimal_of};
 ghost use Rattle.test_text.specs.Text.{is_digit, are_digits, is_hex, is_number, Apart};
 
@@ -112,15 +112,26 @@ fn is_digit(b: u8, base: u8) -> bool
     hex_value(b).is_some_and(|v| v < base)
 }
 
+// The value of a decimal digit: hex_value's where that is under 10. It has no tests for a letter, which took time in a long number.
+#[tactic(auto, unfolding(crate::specs::Text::hex_value, crate::specs::Text::is_digit, crate::specs::Text::is_value))]
+fn decimal_value(b: u8) -> Option<u8>
+    ensures { (result ≡ cond (is_digit 10 b) (hex_value b) None) × (is_some result ≡ is_digit 10 b) }
+{
+    match b {
+        b'0'..=b'9' => Some(b - b'0'),
+        _ => None,
+    }
+}
+
 // The number that the decimal digits at the front of s say, up to the digit that takes it to 2 ^ 32 or past it.
-#[tactic(auto, using(crate::proofs::Text::decimal_stop, crate::proofs::Text::decimal_end))]
+#[tactic(auto, using(crate::proofs::Text::decimal_over, crate::proofs::Text::decimal_end))]
 pub fn decimal(s: &[u8]) -> usize
     ensures { result ≡ decimal_of 0 s.now }
 {
     let mut n = 0;
     for b in s {
-        match hex_value(*b) {
-            Some(d) if d < 10 && n < 4294967296 => n = n * 10 + usize::from(d),
+        match decimal_value(*b) {
+            Some(d) if n < 4294967296 => n = n * 10 + usize::from(d),
             _ => break,
         }
     }
@@ -132,6 +143,13 @@ fn are_digits(s: &[u8], base: u8) -> bool
     ensures { result ≡ are_digits base s.now }
 {
     s.iter().all(|b| is_digit(*b, base))
+}
+
+// The same under 10, by the shorter test.
+fn are_decimal(s: &[u8]) -> bool
+    ensures { result ≡ are_digits 10 s.now }
+{
+    s.iter().all(|b| decimal_value(*b).is_some())
 }
 
 // Whether a field says bytes: it is -, for none, or hexadecimal digits, two to a byte.
@@ -151,7 +169,7 @@ pub fn is_hex(s: &[u8]) -> bool
 pub fn is_number(s: &[u8]) -> bool
     ensures { result ≡ is_number s.now }
 {
-    !s.is_empty() && are_digits(s, 10)
+    !s.is_empty() && are_decimal(s)
 }
 
 // Takes a line ROOT CARD WORDS apart. A field that is longer than its buffer fills it.

@@ -56,15 +56,15 @@ fn answer(rt: &impl Print, form: Form, question: &Question, lent: &mut Lent) -> 
         is_listed: question.places.is_some(),
         end: form.end(question.places.is_some()),
     };
-    let bytes = question.bytes.min(lent.out.len());
-    let words = question.words.min(lent.work.len());
+    let bytes = test_text::decimal(question.bytes).min(lent.out.len());
+    let words = test_text::decimal(question.words).min(lent.work.len());
     let mut part = Lent {
         out: &mut lent.out[..bytes],
         work: &mut lent.work[..words],
         list: &mut [],
     };
     match question.places {
-        Some(places) => answer_listed(rt, &call, &mut part, places),
+        Some(places) => answer_listed(rt, &call, &mut part, test_text::decimal(places)),
         None => call.say_answer(rt, &mut part),
     }
 }

@@ -9,22 +9,25 @@ pub enum Form {
     Straight,
 }
 
-// The fields of a case, root and card in hexadecimal; places is None for no list.
+// The fields of a case as they are written, root and card in hexadecimal; places is None for no list. What the
+// numbers say is taken once all fields are known to be right.
 #[derive(Clone, Copy)]
 pub struct Question<'a> {
     pub root: &'a [u8],
     pub card: &'a [u8],
-    pub bytes: usize,
-    pub words: usize,
-    pub places: Option<usize>,
+    pub bytes: &'a [u8],
+    pub words: &'a [u8],
+    pub places: Option<&'a [u8]>,
 }
 
 fn hex(field: &[u8]) -> Option<&[u8]> {
     test_text::is_hex(field).then_some(field)
 }
 
-fn number(field: &[u8]) -> Option<usize> {
-    test_text::is_number(field).then(|| test_text::decimal(field))
+// Apart: within `read` its loop takes 10 instructions a digit where it takes 6 so.
+#[inline(never)]
+fn number(field: &[u8]) -> Option<&[u8]> {
+    test_text::is_number(field).then_some(field)
 }
 
 impl Form {
